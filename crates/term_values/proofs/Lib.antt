@@ -1,0 +1,4 @@
+pub mod Trees
+pub mod Lists
+pub mod SameBytes
+pub mod SameTrees

@@ -1,0 +1,7 @@
+pub mod Trees
+pub mod Codes
+pub mod TreeOf
+pub mod Falls
+pub mod Lengths
+pub mod SameBytes
+pub mod Same
