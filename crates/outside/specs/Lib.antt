@@ -1,0 +1,4 @@
+pub mod Tally
+pub mod Causes
+pub mod Memory
+pub mod Told
