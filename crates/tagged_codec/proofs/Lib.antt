@@ -1,0 +1,10 @@
+pub mod Fields
+pub mod Framing
+pub mod Grammar
+pub mod Loop
+pub mod Openings
+pub mod Places
+pub mod Refusals
+pub mod Relation
+pub mod Stops
+pub mod Terms
