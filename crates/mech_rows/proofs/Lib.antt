@@ -1,0 +1,14 @@
+pub mod Filling
+pub mod Facts
+pub mod Items
+pub mod Judged
+pub mod RowUse
+pub mod Symbolic
+pub mod Unique
+pub mod KeyParts
+pub mod SameTrees
+pub mod Reading
+pub mod Parts
+pub mod VerdictFits
+pub mod Taking
+pub mod Welcomed

@@ -1,0 +1,16 @@
+pub mod Rows
+pub mod Heads
+pub mod Table
+pub mod Facts
+pub mod Rounds
+pub mod Runs
+pub mod Says
+pub mod Steps
+pub mod Found
+pub mod Notes
+pub mod Bodies
+pub mod Rings
+pub mod Codes
+pub mod Same
+pub mod Verdict
+pub mod Lawful
