@@ -1,0 +1,11 @@
+pub mod Derivations
+pub mod Heights
+pub mod Safe
+pub mod Saturated
+pub mod KnowledgeIndexed
+pub mod KnowledgeLists
+pub mod KnowledgeLooks
+pub mod KnowledgeMeasure
+pub mod KnowledgeStored
+pub mod KnowledgeTaking
+pub mod Decided
