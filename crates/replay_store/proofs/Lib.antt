@@ -1,0 +1,7 @@
+pub mod Stamps
+pub mod Found
+pub mod Pairs
+pub mod Ranks
+pub mod Bits
+pub mod Verdicts
+pub mod Recalled

@@ -1,0 +1,14 @@
+use Rattle.std.proofs.Common.{◌∙◌, leb, sym, ap, subst, rules}
+use Rattle.std.specs.List.Sorted.{IsNonDecreasing}
+use Rattle.std.proofs.lemmas.List.Sorted.{IsPartitionPoint-from_clause, IsPartitionedBy-leb}
+use Rattle.replay_store.specs.Windows.{up_to}
+use Rattle.replay_store.proofs.Ranks.{count_at_point}
+use Rattle.replay_store.proofs.ranked.Ranked.up_to.Goals as goal
+
+pub returns : goal.returns
+returns c =
+    let rising = subst IsNonDecreasing (sym c.deref.ensures.value) c.self.invariant in
+    let parted = IsPartitionedBy-leb (λ k. k) _ c.args.bound rising in
+    let point = IsPartitionPoint-from_clause (λ k. leb k c.args.bound) _ _ c.partition_point.ensures.partitioned parted (λ a r q k. search rules) in
+    let counted = count_at_point (λ k. leb k c.args.bound) _ _ c.partition_point.ensures.bound point.0 point.1 in
+    sym counted ∙ ap (up_to c.args.bound) c.deref.ensures.value ∙ ap (λ r. up_to c.args.bound r.keys) c.self.view_is

@@ -1,0 +1,11 @@
+use Rattle.std.proofs.Common.{◌+◌, ◌∙◌, ap, ap₂, arith, length}
+use Rattle.replay_store.proofs.Recalled.{kept_is}
+use Rattle.replay_store.proofs.window_store.WindowStore.kept.Goals as goal
+
+pub overflow_add-result : goal.overflow_add-result
+overflow_add-result c = omega (arith, c.len.ensures.small, c.len-2.ensures.small)
+
+pub returns : goal.returns
+returns c = λ accepted r.
+    ap₂ (λ a b. a + b) (c.len.ensures.count ∙ ap (λ s. length s.times) c.self.view_is) (c.len-2.ensures.len ∙ ap (λ s. length s.numbers) c.self.view_is)
+    ∙ kept_is c.args.self.now accepted r

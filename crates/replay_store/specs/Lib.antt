@@ -1,0 +1,4 @@
+pub mod Stamps
+pub mod Stores
+pub mod Held
+pub mod Windows

@@ -1,0 +1,157 @@
+use super::*;
+use std::process::Abort;
+use std::test::Fail;
+use term_values::{Name, OutOfMemory, Stamp, StampKind, Tag};
+
+const TAG: Tag = Tag([1, 1, 1, 1]);
+
+const OTHER_TAG: Tag = Tag([1, 1, 1, 2]);
+
+fn accept<T: Store>(store: &mut T, sender: Name, stamp: Stamp) -> Result<(), OutOfMemory> {
+    let kind = match stamp {
+        Stamp::Time(_) => StampKind::Time,
+        Stamp::Seq(_) => StampKind::Seq,
+    };
+    store.reserve(1)?;
+    store.record(kind, sender, &TAG, &stamp);
+    Ok(())
+}
+
+fn time<T: Store>(store: &T, clock: u64, sender: Name, at: u64) -> Verdict {
+    store.probe(clock, StampKind::Time, sender, &TAG, &Stamp::Time(at))
+}
+
+fn number<T: Store>(store: &T, sender: Name, at: u64) -> Verdict {
+    store.probe(0, StampKind::Seq, sender, &TAG, &Stamp::Seq(at))
+}
+
+fn names(rt: &impl Abort) -> (Name, Name) {
+    let one = Name::new(1).expect(rt, "a name");
+    let two = Name::new(2).expect(rt, "a name");
+    (one, two)
+}
+
+fn fills_up<T: Store>(rt: &impl Abort, mut store: T) -> Result<(), Fail> {
+    let (one, two) = names(rt);
+    for at in 0..4096 {
+        accept(&mut store, one, Stamp::Time(at))?;
+    }
+    let full = Verdict::StoreFull { count: 4096 };
+    assert_eq!(rt; time(&store, 0, one, 4096), full);
+    assert_eq!(rt; time(&store, 0, two, 4096), Verdict::Fit);
+    let at = Stamp::Time(4096);
+    let other = store.probe(0, StampKind::Time, one, &OTHER_TAG, &at);
+    assert_eq!(rt; other, Verdict::Fit);
+    store.reserve(1)?;
+    store.restore(one, &TAG, &at);
+    let full = Verdict::StoreFull { count: 4097 };
+    assert_eq!(rt; time(&store, 0, one, 4097), full);
+    assert_eq!(rt;
+        time(&store, 5001, one, 4097),
+        Verdict::StoreFull { count: 4096 }
+    );
+    assert_eq!(rt; time(&store.emptied(), 0, one, 4097), Verdict::Fit);
+    Ok(())
+}
+
+fn judges<T: Store>(rt: &impl Abort, mut store: T) -> Result<(), Fail> {
+    let (one, _) = names(rt);
+    assert_eq!(rt; number(&store, one, 0), Verdict::Fit);
+    accept(&mut store, one, Stamp::Seq(66))?;
+    accept(&mut store, one, Stamp::Seq(3))?;
+    for (at, want) in [
+        (2, Verdict::Late { at: 66 }),
+        (3, Verdict::Repeated),
+        (4, Verdict::Fit),
+        (65, Verdict::Fit),
+        (66, Verdict::Repeated),
+        (67, Verdict::Fit),
+    ] {
+        assert_eq!(rt; number(&store, one, at), want, "at {at}");
+    }
+    assert_eq!(rt; store.tick(10_000), 10_000);
+    accept(&mut store, one, Stamp::Time(10_000))?;
+    for (clock, at, want) in [
+        (0, 15_000, Verdict::Fit),
+        (0, 15_001, Verdict::Early { at: 10_000 }),
+        (0, 5_000, Verdict::Fit),
+        (0, 4_999, Verdict::Late { at: 10_000 }),
+        (15_000, 10_000, Verdict::Repeated),
+        (15_001, 10_000, Verdict::Late { at: 15_001 }),
+    ] {
+        assert_eq!(rt; time(&store, clock, one, at), want, "at {at}, {clock}");
+    }
+    let wrong = store.probe(0, StampKind::Seq, one, &TAG, &Stamp::Time(10_000));
+    assert_eq!(rt; wrong, Verdict::WrongStampKind);
+    assert_eq!(rt; store.tick(9_000), 10_000);
+    Ok(())
+}
+
+#[test]
+fn fills_up_by_a_list(rt: HostRuntime) -> Result<(), Fail> {
+    fills_up(&rt, ListStore::new(rt.alloc(), 5000))
+}
+
+#[test]
+fn judges_by_a_list(rt: HostRuntime) -> Result<(), Fail> {
+    judges(&rt, ListStore::new(rt.alloc(), 5000))
+}
+
+#[test]
+fn fills_up_by_a_window(rt: HostRuntime) -> Result<(), Fail> {
+    fills_up(&rt, WindowStore::new(rt.alloc(), 5000))
+}
+
+#[test]
+fn judges_by_a_window(rt: HostRuntime) -> Result<(), Fail> {
+    judges(&rt, WindowStore::new(rt.alloc(), 5000))
+}
+
+#[test]
+fn forgets_what_is_not_live(rt: HostRuntime) -> Result<(), Fail> {
+    let (one, _) = names(&rt);
+    let mut store = WindowStore::new(rt.alloc(), 5000);
+    store.tick(10);
+    for at in 5..8 {
+        accept(&mut store, one, Stamp::Time(at))?;
+    }
+    assert_eq!(rt; store.kept(), 3);
+    store.tick(5006);
+    assert_eq!(rt; store.kept(), 2);
+    assert_eq!(rt; time(&store, 0, one, 5), Verdict::Late { at: 5006 });
+    assert_eq!(rt; time(&store, 0, one, 6), Verdict::Repeated);
+    accept(&mut store, one, Stamp::Seq(9))?;
+    accept(&mut store, one, Stamp::Seq(8))?;
+    assert_eq!(rt; store.kept(), 3);
+    assert_eq!(rt; store.emptied().kept(), 0);
+    Ok(())
+}
+
+#[test]
+fn both_stores_say_the_same(rt: HostRuntime) -> Result<(), Fail> {
+    let (one, two) = names(&rt);
+    let mut plain = ListStore::new(rt.alloc(), 500);
+    let mut window = WindowStore::new(rt.alloc(), 500);
+    for step in 0..300 {
+        let sender = if step % 3 == 0 { one } else { two };
+        let tag = if step % 5 == 0 { TAG } else { OTHER_TAG };
+        let time = Stamp::Time(step * 10 + step * 37 % 101 * 10);
+        let number = Stamp::Seq(step / 2 + step * 29 % 97);
+        for (kind, stamp) in [(StampKind::Time, time), (StampKind::Seq, number)] {
+            let said = plain.probe(step * 11, kind, sender, &tag, &stamp);
+            let same = window.probe(step * 11, kind, sender, &tag, &stamp);
+            assert_eq!(rt; said, same, "at {step}");
+            plain.reserve(1)?;
+            window.reserve(1)?;
+            if said == Verdict::Fit {
+                plain.record(kind, sender, &tag, &stamp);
+                window.record(kind, sender, &tag, &stamp);
+            } else {
+                plain.restore(sender, &tag, &stamp);
+                window.restore(sender, &tag, &stamp);
+            }
+        }
+        assert_eq!(rt; plain.tick(step * 10), window.tick(step * 10));
+    }
+    Ok(())
+}
