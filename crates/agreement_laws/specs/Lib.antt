@@ -1,0 +1,10 @@
+pub mod Assembled
+pub mod Configs
+pub mod Examples
+pub mod Nodes
+pub mod Replacement
+pub mod Sound
+pub mod Traces
+pub mod Worlds
+pub mod Partners
+pub mod Histories
