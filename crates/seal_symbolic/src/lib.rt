@@ -1,0 +1,10 @@
+//! Sealing by terms: a seal is the term that says what it seals.
+#![tactic(auto)]
+
+mod laws;
+mod symbolic;
+#[cfg(test)]
+mod tests;
+
+pub use laws::seals_and_checks_are_terms;
+pub use symbolic::Symbolic;
