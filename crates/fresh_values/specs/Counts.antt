@@ -1,0 +1,17 @@
+-- Draws that are counted.
+use Rattle.std.specs.Prelude.{ℕ, List}
+use Rattle.outside.specs.Told.{DrawKind, nonce_draw, part_draw, counted_draw}
+
+-- how many draws were made, which is the place of the next, and how many failed
+pub record Counts : Type 0 where
+  pub place : ℕ
+  pub faults : ℕ
+
+-- the byte that a nonce or a part begins with
+abbrev pub first_byte : DrawKind → ℕ
+first_byte nonce_draw = 0xd0
+first_byte part_draw = 0xd1
+
+-- draw k: its first byte, and k as 15 bytes or 31, the greater byte first
+abbrev pub counted_value : DrawKind → ℕ → List ℕ
+counted_value kind k = counted_draw (first_byte kind) kind k
