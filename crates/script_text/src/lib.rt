@@ -1,0 +1,15 @@
+//! Terms, script lines and refusals as text.
+#![tactic(auto)]
+
+mod bad;
+mod printing;
+mod reading;
+mod refusals;
+mod terms;
+#[cfg(test)]
+mod tests;
+
+pub use bad::BadLine;
+pub use printing::{one_form, print_term};
+pub use refusals::print_refusal;
+pub use terms::{one_reading, read_term};
