@@ -1,0 +1,5 @@
+pub mod Messages
+pub mod Offline
+pub mod Online
+pub mod Walks
+pub mod Words
