@@ -54,7 +54,7 @@ impl<R: TryRng> Draws for RngDraws<R> {
     ///
     /// # Errors
     ///
-    /// [`Failed`] exactly where the source answers an error; then the count of faults rises, and only then.
+    /// [`Failed`] where the source answers an error. The count of faults rises then, and stands still after Ok.
     fn nonce(&mut self) -> Result<Nonce, Failed>
         ensures filled { IfOk result (λ nonce. R.may_fill self.old.source nonce self.new.source) }
         ensures counted { OnErr result (self.new.faults ≡ one_more self.old.faults) }
@@ -70,7 +70,7 @@ impl<R: TryRng> Draws for RngDraws<R> {
     ///
     /// # Errors
     ///
-    /// [`Failed`] exactly where the source answers an error; then the count of faults rises, and only then.
+    /// [`Failed`] where the source answers an error. The count of faults rises then, and stands still after Ok.
     fn part(&mut self) -> Result<Part, Failed>
         ensures filled { IfOk result (λ part. R.may_fill self.old.source part self.new.source) }
         ensures counted { OnErr result (self.new.faults ≡ one_more self.old.faults) }

@@ -1,6 +1,6 @@
 use super::*;
 use outside::{Draws, Failed};
-use rand_core::TryRng;
+use rand_core::{Infallible, TryRng};
 use std::fmt;
 use std::test::Fail;
 use term_values::{Nonce, Part, Stamp, StampKind};
@@ -28,6 +28,29 @@ impl TryRng for Steady {
             return Err(fmt::Error);
         }
         self.left -= 1;
+        dst.fill(self.byte);
+        Ok(())
+    }
+}
+
+/// A source that gives one byte over and over and never fails.
+#[derive(Drop)]
+struct Sure {
+    byte: u8,
+}
+
+impl TryRng for Sure {
+    type Error = Infallible;
+
+    fn try_next_u32(&mut self) -> Result<u32, Infallible> {
+        Ok(u32::from(self.byte))
+    }
+
+    fn try_next_u64(&mut self) -> Result<u64, Infallible> {
+        Ok(u64::from(self.byte))
+    }
+
+    fn try_fill_bytes(&mut self, dst: &mut [u8]) -> Result<(), Infallible> {
         dst.fill(self.byte);
         Ok(())
     }
@@ -77,5 +100,11 @@ fn a_source_is_drawn_from(rt: HostRuntime) -> Result<(), Fail> {
     assert_eq!(rt; draws.nonce(), Err(Failed));
     assert_eq!(rt; draws.part(), Err(Failed));
     assert_eq!(rt; draws.faults(), 2);
+    let mut sure = RngDraws::new(Sure { byte: 5 });
+    for _ in 0..3 {
+        assert_eq!(rt; sure.nonce(), Ok(Nonce([5; 16])));
+        assert_eq!(rt; sure.part(), Ok(Part([5; 32])));
+    }
+    assert_eq!(rt; sure.faults(), 0);
     Ok(())
 }
