@@ -2,7 +2,7 @@
 use Rattle.std.specs.Prelude.{ℕ, List}
 use Rattle.outside.specs.Told.{DrawKind, nonce_draw, part_draw, counted_draw}
 
--- how many draws were made, which is the place of the next, and how many failed
+-- the number of the next draw, and how many draws failed
 pub record Counts : Type 0 where
   pub place : ℕ
   pub faults : ℕ

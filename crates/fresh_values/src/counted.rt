@@ -47,7 +47,7 @@ impl Counted {
         }
     }
 
-    /// How many draws were made, and the number of the next. Takes no memory.
+    /// The number of the next draw. Takes no memory.
     pub fn count(&self) -> u64
         ensures { result ≡ self.now.place }
     {

@@ -71,7 +71,7 @@ is_empty _ = false
 abbrev pub time_limit : ℕ
 time_limit = 4096
 
--- how many sequence numbers late a number may come
+-- from so far below the greatest on, a sequence number is late
 abbrev pub number_window : ℕ
 number_window = 64
 

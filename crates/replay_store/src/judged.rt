@@ -4,7 +4,7 @@ ghost use Rattle.replay_store.specs.Stores.{number_answer, time_answer};
 
 use crate::verdict::Verdict;
 
-/// So many live times of one sender and tag are the most that a time which is fit may join.
+/// From so many live times of one sender and tag on, no further time is fit.
 const TIME_LIMIT: usize = 4096;
 
 /// A sequence number is late from this far below the greatest on.

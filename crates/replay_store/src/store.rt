@@ -19,7 +19,7 @@ pub trait Store: Drop {
     /// How many records need no memory.
     ghost spare: { Self → ℕ };
 
-    /// Holds where these are all stamps that the store has accepted, in order.
+    /// Holds where these may be all stamps that the store has accepted.
     ghost stands_for: { Self → List Accepted → Type 0 };
 
     /// Now becomes the greater of itself and the clock; answers it. Takes no memory.
