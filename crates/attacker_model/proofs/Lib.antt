@@ -2,6 +2,7 @@ pub mod Derivations
 pub mod Heights
 pub mod Safe
 pub mod Saturated
+pub mod KnowledgeIndex
 pub mod KnowledgeIndexed
 pub mod KnowledgeLists
 pub mod KnowledgeLooks

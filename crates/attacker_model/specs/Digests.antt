@@ -1,8 +1,11 @@
 -- Digests of terms: numbers below 2 ^ 128, by which a term is looked up among known ones.
-use Rattle.std.specs.Prelude.{[], ◌∷◌, ◌≡◌, ℕ, ◌<◌, ◌++◌, List, Option, None, Some, take, true}
+use Rattle.std.specs.Prelude.{[], ◌∷◌, ◌≡◌, ℕ, zero, suc, ◌++◌, List, take, true}
+use Rattle.std.specs.declared.cmp.Ordering.{Ordering}
+use Rattle.std.specs.Ordering.{nat_cmp, ordering_then}
+use Rattle.std.specs.BTreeSet.{BTreeSet, contains}
 use Rattle.std.specs.Int.{w32, w64, w128, from_be_bytes, to_be_bytes}
 use Rattle.sha2.specs.Sha256.{sha256}
-use Rattle.term_values.specs.Trees.{Among, Bytes, Tree, name, stamp, nonce, part, text, tag, blob, tuple, seal, check, Trees, none, item}
+use Rattle.term_values.specs.Trees.{Bytes, Tree, name, stamp, nonce, part, text, tag, blob, tuple, seal, check, Trees, none, item}
 use Rattle.term_values.specs.declared.small.Key.{Key}
 use Rattle.term_values.specs.declared.small.Key.TheVariants.{One, Two}
 use Rattle.term_values.specs.declared.small.Stamp.{Stamp}
@@ -45,12 +48,21 @@ abbrev mutual
   digest_items d none = absorb d 12 []
   digest_items d (item t ts) = digest_items (digest_term d t) ts
 
--- there is a number, and it is below n
-abbrev pub IsBelow : ℕ → Option ℕ → Type 0
-IsBelow n None = ⊥
-IsBelow n (Some q) = q < n
+-- by the first number, and then by the second
+abbrev pub by_both : ℕ × ℕ → ℕ × ℕ → Ordering
+by_both x y = ordering_then (nat_cmp x.0 y.0) (nat_cmp x.1 y.1)
 
--- the digest of each of the first n terms leads to a place among those, and so does that of each part of a key of a seal among them
-pub record IsIndexed (terms : List Tree) (place lock : ℕ → Option ℕ) : Type 0 where
-  pub found : (n : ℕ) (t : Tree) → Among t (take n terms) → IsBelow n (place (digest_term 1 t))
-  pub locked : (n : ℕ) (k : Key) (t : Tree) (p : Bytes) → Among (seal k t) (take n terms) → has_part k p ≡ true → IsBelow n (lock (digest_bytes 1 p))
+-- the number is entered with this place
+abbrev pub HasPlace : BTreeSet (ℕ × ℕ) → ℕ → ℕ → Type 0
+HasPlace s n q = contains by_both s (n, q) ≡ true
+
+-- the term stands at this place of the list, counted from 0
+abbrev pub StandsAt : Tree → List Tree → ℕ → Type 0
+StandsAt t [] q = ⊥
+StandsAt t (u ∷ K) zero = t ≡ u
+StandsAt t (u ∷ K) (suc q) = StandsAt t K q
+
+-- each term's place is entered under its digest, and that of a seal also under the digest of each part of its key
+pub record IsIndexed (terms : List Tree) (places locks : BTreeSet (ℕ × ℕ)) : Type 0 where
+  pub found : (q : ℕ) (t : Tree) → StandsAt t terms q → HasPlace places (digest_term 1 t) q
+  pub locked : (q : ℕ) (k : Key) (t : Tree) (p : Bytes) → StandsAt (seal k t) terms q → has_part k p ≡ true → HasPlace locks (digest_bytes 1 p) q

@@ -1,25 +1,24 @@
-ghost use Rattle.std.specs.Prelude.{◌≡◌, ◌↔◌, ◌++◌, ◌∷◌, [], ℕ, suc, ◌≤◌, IsTrue, IfOk, OnOk, true, false, if◌then◌else◌, is_ok, length, take};
-ghost use Rattle.std.specs.Ordering.{nat_cmp};
-ghost use Rattle.std.specs.BTreeMap.{get as entry};
+ghost use Rattle.std.specs.Prelude.{◌≡◌, ◌↔◌, ◌++◌, ◌∷◌, [], ℕ, ◌≤◌, ◌<◌, IsTrue, IfOk, IfSome, None, OnOk, true, if◌then◌else◌, is_ok, length, take, drop};
 ghost use Rattle.term_values.specs.Trees.{Among, Bytes as SomeBytes, Tree, seal};
 ghost use Rattle.term_values.specs.declared.small.Key.{Key as AnyKey};
-ghost use Rattle.attacker_model.specs.Digests.{IsBelow, digest_bytes, digest_term};
+ghost use Rattle.attacker_model.specs.Digests.{HasPlace, StandsAt, digest_bytes, digest_term};
 ghost use Rattle.attacker_model.specs.Taken.{has_part, key_known, opened_by, part_known};
 
 use crate::knowledge_digest::{lock_of, place_of};
+use crate::knowledge_index::{Index, enter, leave, next_place};
 use std::alloc::Global;
-use std::collections::BTreeMap;
+use std::collections::BTreeSet;
 use std::marker::Model;
 use term_values::{Form, Key, OutOfMemory, Part, Term};
 
-/// Known terms in the order in which they came. Contracts see the list of their trees. Each is
-/// found by its digest, and so is each part that stands in the key of a known seal: a digest leads
-/// to the first place that has it, and terms that are taken away take their entries with them.
+/// Known terms in the order in which they came. Contracts see the list of their trees. The place of
+/// each is entered under its digest, and that of a seal also under the digest of each part of its
+/// key; terms that are taken away take their entries with them.
 #[derive(Drop)]
 pub(crate) struct Apart {
     terms: Vec<Term>,
-    places: BTreeMap<u128, usize>,
-    locks: BTreeMap<u128, usize>,
+    places: Index,
+    locks: Index,
 }
 
 impl Model for Apart {
@@ -32,13 +31,11 @@ impl Model for Apart {
 
     ghost coded = { coded_list coded_tree };
 
-    ghost use Rattle.std.specs.Ordering.{nat_cmp};
-    ghost use Rattle.std.specs.BTreeMap.{get};
     ghost use Rattle.attacker_model.specs.Digests.{IsIndexed};
 
     ghost view = { λ a. a.terms.items };
 
-    ghost invariant = { λ a. IsIndexed a.terms.items (λ q. get nat_cmp a.places q) (λ q. get nat_cmp a.locks q) };
+    ghost invariant = { λ a. IsIndexed a.terms.items a.places a.locks };
 }
 
 impl Apart {
@@ -49,8 +46,8 @@ impl Apart {
     {
         Apart {
             terms: Vec::new(alloc),
-            places: BTreeMap::new(alloc),
-            locks: BTreeMap::new(alloc),
+            places: BTreeSet::new(alloc),
+            locks: BTreeSet::new(alloc),
         }
     }
 
@@ -73,8 +70,12 @@ impl Apart {
     pub(crate) fn truncate(&mut self, count: usize)
         ensures first { self.new ≡ take count self.old }
     {
-        let (_, last) = self.terms.split_at(count.min(self.terms.len()));
-        leave_all(&mut self.places, &mut self.locks, last, count);
+        leave_all(
+            &mut self.places,
+            &mut self.locks,
+            self.terms.as_slice(),
+            count,
+        );
         self.terms.truncate(count);
     }
 
@@ -100,17 +101,11 @@ impl Apart {
     }
 
     /// Whether the term is among the first ones.
-    #[tactic(auto, using(crate::proofs::KnowledgeIndexed::not_found, crate::proofs::KnowledgeIndexed::not_found_before, crate::proofs::KnowledgeLists::among_at))]
     pub(crate) fn knows(&self, count: usize, term: &Term) -> bool
         ensures known { IsTrue result ↔ Among term.now (take count self.now) }
     {
-        let (first, _) = self.terms.split_at(count.min(self.terms.len()));
-        match self.places.get(&place_of(term)) {
-            None => false,
-            Some(place) => {
-                *place < count && (is_at(first, *place, term) || is_among(first, term))
-            }
-        }
+        let (first, _) = self.list().split_at(count.min(self.len()));
+        is_found(&self.places, first, term)
     }
 
     /// Whether the part is among the first ones.
@@ -132,110 +127,77 @@ impl Apart {
         }
     }
 
-    /// Whether the part may stand in the key of a seal among these terms.
-    #[tactic(auto, using(crate::proofs::KnowledgeIndexed::not_locked))]
-    pub(crate) fn may_open(&self, part: &Part) -> bool
-        ensures none { result ≡ false → opened_by self.now part.now self.now ≡ [] }
+    /// The next place, from this one on, of a term that the part may open.
+    pub(crate) fn next_under(&self, part: &Part, from: usize) -> Option<usize>
+        ensures within { IfSome result (λ place. place < length self.now) }
+        ensures from { IfSome result (λ place. from ≤ place) }
+        ensures passed { IfSome result (λ place. opened_by self.now part.now (drop from self.now) ≡ opened_by self.now part.now (drop place self.now)) }
+        ensures none { result ≡ None → opened_by self.now part.now (drop from self.now) ≡ [] }
     {
-        self.locks.get(&lock_of(part)).is_some()
+        match next_place(&self.locks, lock_of(part), from) {
+            Some(place) if place < self.len() => Some(place),
+            _ => None,
+        }
     }
 }
 
+/// Whether the term stands at one of the places of its digest.
 #[tactic(auto, using(crate::proofs::KnowledgeLists::among_at))]
-fn is_at(terms: &[Term], place: usize, wanted: &Term) -> bool
+fn is_found(places: &Index, terms: &[Term], wanted: &Term) -> bool
     ensures among { IsTrue result → Among wanted.now terms.now }
+    ensures found { (q : ℕ) → StandsAt wanted.now terms.now q → HasPlace places.now (digest_term 1 wanted.now) q → IsTrue result }
 {
-    if place >= terms.len() {
-        return false;
-    }
-    wanted.same(&terms[place])
-}
-
-#[tactic(auto, using(crate::proofs::KnowledgeLists::among_at))]
-fn is_among(terms: &[Term], wanted: &Term) -> bool
-    ensures among { IsTrue result ↔ Among wanted.now terms.now }
-{
-    for term in terms {
-        if wanted.same(term) {
+    let number = place_of(wanted);
+    let mut from = 0;
+    while let Some(place) = next_place(places, number, from) {
+        if place >= terms.len() {
+            return false;
+        }
+        if wanted.same(&terms[place]) {
             return true;
         }
+        from = place + 1;
     }
     false
 }
 
-/// Whether there is an entry with one of the first places.
-fn is_before(entries: &BTreeMap<u128, usize>, number: u128, count: usize) -> bool
-    ensures before { IsTrue result ↔ IsBelow count (entry nat_cmp entries.now number) }
-{
-    match entries.get(&number) {
-        Some(place) => *place < count,
-        None => false,
-    }
-}
-
-/// Adds an entry, unless there is one with an earlier place.
-#[tactic(auto, using(crate::proofs::KnowledgeIndexed::sooner, crate::proofs::KnowledgeIndexed::here_below))]
-fn enter(entries: &mut BTreeMap<u128, usize>, number: u128, place: usize) -> Result<(), OutOfMemory>
-    ensures kept { (n q : ℕ) → IsBelow n (entry nat_cmp entries.old q) → IsBelow n (entry nat_cmp entries.new q) }
-    ensures entered { OnOk result (IsBelow (suc place) (entry nat_cmp entries.new number)) }
-{
-    if !is_before(entries, number, place) {
-        entries.insert(number, place)?;
-    }
-    Ok(())
-}
-
-/// Takes an entry out, unless its place is one of the first.
-fn leave(entries: &mut BTreeMap<u128, usize>, number: u128, count: usize)
-    ensures kept { (n q : ℕ) → n ≤ count → IsBelow n (entry nat_cmp entries.old q) → IsBelow n (entry nat_cmp entries.new q) }
-{
-    if !is_before(entries, number, count) {
-        let _removed = entries.remove(&number);
-    }
-}
-
-/// Takes out the entries of each part of the key, unless their places are among the first.
-fn unlock(locks: &mut BTreeMap<u128, usize>, key: &Key, count: usize)
-    ensures kept { (n q : ℕ) → n ≤ count → IsBelow n (entry nat_cmp locks.old q) → IsBelow n (entry nat_cmp locks.new q) }
+/// Takes out the entries of each part of the key.
+fn unlock(locks: &mut Index, key: &Key, place: usize)
+    ensures kept { (n q : ℕ) → q < place → HasPlace locks.old n q → HasPlace locks.new n q }
 {
     match key {
-        Key::One(part) => leave(locks, lock_of(part), count),
+        Key::One(part) => leave(locks, lock_of(part), place),
         Key::Two(first, second) => {
-            leave(locks, lock_of(first), count);
-            leave(locks, lock_of(second), count);
+            leave(locks, lock_of(first), place);
+            leave(locks, lock_of(second), place);
         }
     }
 }
 
-/// Takes out the entries of each part of the key of a seal, unless their places are among the first.
-fn unlock_seal(locks: &mut BTreeMap<u128, usize>, term: &Term, count: usize)
-    ensures kept { (n q : ℕ) → n ≤ count → IsBelow n (entry nat_cmp locks.old q) → IsBelow n (entry nat_cmp locks.new q) }
+/// Takes out the entries of each part of the key, where the term is a seal.
+fn unlock_seal(locks: &mut Index, term: &Term, place: usize)
+    ensures kept { (n q : ℕ) → q < place → HasPlace locks.old n q → HasPlace locks.new n q }
 {
     if let Form::Seal(key, _) = term.form() {
-        unlock(locks, key, count);
+        unlock(locks, key, place);
     }
 }
 
-/// Takes out the entries of these terms, unless their places are among the first.
-fn leave_all(
-    places: &mut BTreeMap<u128, usize>,
-    locks: &mut BTreeMap<u128, usize>,
-    terms: &[Term],
-    count: usize,
-)
-    ensures places { (n q : ℕ) → n ≤ count → IsBelow n (entry nat_cmp places.old q) → IsBelow n (entry nat_cmp places.new q) }
-    ensures locks { (n q : ℕ) → n ≤ count → IsBelow n (entry nat_cmp locks.old q) → IsBelow n (entry nat_cmp locks.new q) }
+/// Takes out the entries of all terms but the first ones.
+fn leave_all(places: &mut Index, locks: &mut Index, terms: &[Term], count: usize)
+    ensures places { (n q : ℕ) → q < count → HasPlace places.old n q → HasPlace places.new n q }
+    ensures locks { (n q : ℕ) → q < count → HasPlace locks.old n q → HasPlace locks.new n q }
 {
-    for term in terms {
-        leave(places, place_of(term), count);
-        unlock_seal(locks, term, count);
+    for (place, term) in terms.iter().enumerate().skip(count) {
+        leave(places, place_of(term), place);
+        unlock_seal(locks, term, place);
     }
 }
 
 /// Adds an entry for each part of the key.
-fn lock(locks: &mut BTreeMap<u128, usize>, key: &Key, place: usize) -> Result<(), OutOfMemory>
-    ensures kept { (n q : ℕ) → IsBelow n (entry nat_cmp locks.old q) → IsBelow n (entry nat_cmp locks.new q) }
-    ensures entered { OnOk result ((p : SomeBytes) → has_part key.now p ≡ true → IsBelow (suc place) (entry nat_cmp locks.new (digest_bytes 1 p))) }
+fn lock(locks: &mut Index, key: &Key, place: usize) -> Result<(), OutOfMemory>
+    ensures kept { (n q : ℕ) → HasPlace locks.old n q → HasPlace locks.new n q }
+    ensures entered { OnOk result ((p : SomeBytes) → has_part key.now p ≡ true → HasPlace locks.new (digest_bytes 1 p) place) }
 {
     match key {
         Key::One(part) => enter(locks, lock_of(part), place),
@@ -247,13 +209,9 @@ fn lock(locks: &mut BTreeMap<u128, usize>, key: &Key, place: usize) -> Result<()
 }
 
 /// Adds an entry for each part of the key, where the term is a seal.
-fn lock_seal(
-    locks: &mut BTreeMap<u128, usize>,
-    term: &Term,
-    place: usize,
-) -> Result<(), OutOfMemory>
-    ensures kept { (n q : ℕ) → IsBelow n (entry nat_cmp locks.old q) → IsBelow n (entry nat_cmp locks.new q) }
-    ensures locked { OnOk result ((k : AnyKey) (u : Tree) (p : SomeBytes) → term.now ≡ seal k u → has_part k p ≡ true → IsBelow (suc place) (entry nat_cmp locks.new (digest_bytes 1 p))) }
+fn lock_seal(locks: &mut Index, term: &Term, place: usize) -> Result<(), OutOfMemory>
+    ensures kept { (n q : ℕ) → HasPlace locks.old n q → HasPlace locks.new n q }
+    ensures locked { OnOk result ((k : AnyKey) (u : Tree) (p : SomeBytes) → term.now ≡ seal k u → has_part k p ≡ true → HasPlace locks.new (digest_bytes 1 p) place) }
 {
     match term.form() {
         Form::Seal(key, _) => lock(locks, key, place),
@@ -263,15 +221,15 @@ fn lock_seal(
 
 /// Adds the entries of a term.
 fn index(
-    places: &mut BTreeMap<u128, usize>,
-    locks: &mut BTreeMap<u128, usize>,
+    places: &mut Index,
+    locks: &mut Index,
     term: &Term,
     place: usize,
 ) -> Result<(), OutOfMemory>
-    ensures places { (n q : ℕ) → IsBelow n (entry nat_cmp places.old q) → IsBelow n (entry nat_cmp places.new q) }
-    ensures locks { (n q : ℕ) → IsBelow n (entry nat_cmp locks.old q) → IsBelow n (entry nat_cmp locks.new q) }
-    ensures found { OnOk result (IsBelow (suc place) (entry nat_cmp places.new (digest_term 1 term.now))) }
-    ensures locked { OnOk result ((k : AnyKey) (u : Tree) (p : SomeBytes) → term.now ≡ seal k u → has_part k p ≡ true → IsBelow (suc place) (entry nat_cmp locks.new (digest_bytes 1 p))) }
+    ensures places { (n q : ℕ) → HasPlace places.old n q → HasPlace places.new n q }
+    ensures locks { (n q : ℕ) → HasPlace locks.old n q → HasPlace locks.new n q }
+    ensures found { OnOk result (HasPlace places.new (digest_term 1 term.now) place) }
+    ensures locked { OnOk result ((k : AnyKey) (u : Tree) (p : SomeBytes) → term.now ≡ seal k u → has_part k p ≡ true → HasPlace locks.new (digest_bytes 1 p) place) }
 {
     lock_seal(locks, term, place)?;
     enter(places, place_of(term), place)

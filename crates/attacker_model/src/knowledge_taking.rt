@@ -1,4 +1,4 @@
-ghost use Rattle.std.specs.Prelude.{◌≡◌, ◌++◌, ◌∷◌, ◌&&◌, OnOk, OnErr, IfOk, length, take};
+ghost use Rattle.std.specs.Prelude.{◌≡◌, ◌++◌, ◌∷◌, [], ◌&&◌, OnOk, OnErr, IfOk, length, take};
 ghost use Rattle.term_values.specs.Trees.{part as a_part};
 ghost use Rattle.term_values.specs.SameBytes.{same_bytes};
 ghost use Rattle.attacker_model.specs.Knowledge.{Differ, IsTakenApart};
@@ -32,7 +32,26 @@ fn is_opened_by(known: &Apart, part: &Part, key: &Key) -> bool
     }
 }
 
-/// Adds the bodies that a new part opens to those terms that wait.
+/// Adds the body to those terms that wait, where the term is a seal that a new part opens.
+fn wait_for_body(
+    alloc: Global,
+    known: &Apart,
+    part: &Part,
+    term: &Term,
+    waiting: &mut Vec<Term>,
+) -> Result<(), OutOfMemory>
+    ensures waits { OnOk result (waiting.new.items ≡ waiting.old.items ++ opened_by known.now part.now (term.now ∷ [])) }
+{
+    if let Form::Seal(key, body) = term.form() {
+        if is_opened_by(known, part, key) {
+            waiting.push(body.copy(alloc)?)?;
+        }
+    }
+    Ok(())
+}
+
+/// Adds the bodies that a new part opens to those terms that wait. Looks at no term but those that
+/// are entered under the part.
 fn wait_for_opened(
     alloc: Global,
     known: &Apart,
@@ -41,15 +60,10 @@ fn wait_for_opened(
 ) -> Result<(), OutOfMemory>
     ensures waits { OnOk result (waiting.new.items ≡ waiting.old.items ++ opened_by known.now part.now known.now) }
 {
-    if !known.may_open(part) {
-        return Ok(());
-    }
-    for term in known.list() {
-        if let Form::Seal(key, body) = term.form() {
-            if is_opened_by(known, part, key) {
-                waiting.push(body.copy(alloc)?)?;
-            }
-        }
+    let mut from = 0;
+    while let Some(place) = known.next_under(part, from) {
+        wait_for_body(alloc, known, part, &known.list()[place], waiting)?;
+        from = place + 1;
     }
     Ok(())
 }

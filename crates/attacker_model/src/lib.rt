@@ -5,6 +5,7 @@ mod knowledge;
 mod knowledge_apart;
 mod knowledge_builds;
 mod knowledge_digest;
+mod knowledge_index;
 mod knowledge_law;
 mod knowledge_taking;
 #[cfg(test)]

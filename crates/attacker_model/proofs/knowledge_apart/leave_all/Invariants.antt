@@ -1,10 +1,7 @@
-use Rattle.std.proofs.Common.{ℕ, ◌≤◌}
-use Rattle.std.specs.Ordering.{nat_cmp}
-use Rattle.std.specs.BTreeMap.{get as entry}
-use Rattle.attacker_model.specs.Digests.{IsBelow}
+use Rattle.std.proofs.Common.{ℕ, ◌<◌}
+use Rattle.attacker_model.specs.Digests.{HasPlace}
 use Rattle.attacker_model.proofs.knowledge_apart.leave_all.Given as goal
 
-abbrev pub invariant-loop-term : goal.invariant-loop-term
-invariant-loop-term l =
-    ((n q : ℕ) → n ≤ l.count → IsBelow n (entry nat_cmp l.initial.places q) → IsBelow n (entry nat_cmp l.places q))
-    × ((n q : ℕ) → n ≤ l.count → IsBelow n (entry nat_cmp l.initial.locks q) → IsBelow n (entry nat_cmp l.locks q))
+abbrev pub invariant-loop-place : goal.invariant-loop-place
+invariant-loop-place l =
+    ((n q : ℕ) → q < l.count → HasPlace l.initial.places n q → HasPlace l.places n q) × ((n q : ℕ) → q < l.count → HasPlace l.initial.locks n q → HasPlace l.locks n q)
