@@ -14,6 +14,9 @@ use term_values::{Form, OutOfMemory, Part, Term};
 
 /// What an attacker knows: parts and terms that it was given, kept taken apart as it learns.
 /// Contracts see the terms given so far, first to last, and the term that is due to be learnt.
+/// What is known is looked up by digests: learning takes a few look-ups for each term that comes
+/// out, asking a few for each term in the question. A new part leads to the seals whose keys have
+/// it. No call but `copy` passes over all that is known.
 #[derive(Drop)]
 pub struct Knowledge {
     apart: Apart,

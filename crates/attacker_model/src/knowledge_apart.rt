@@ -127,7 +127,8 @@ impl Apart {
         }
     }
 
-    /// The next place, from this one on, of a term that the part may open.
+    /// The next place, from this one on, that is entered under the part's digest: no term before it
+    /// is opened by the part.
     pub(crate) fn next_under(&self, part: &Part, from: usize) -> Option<usize>
         ensures within { IfSome result (λ place. place < length self.now) }
         ensures from { IfSome result (λ place. from ≤ place) }
@@ -188,7 +189,8 @@ fn leave_all(places: &mut Index, locks: &mut Index, terms: &[Term], count: usize
     ensures places { (n q : ℕ) → q < count → HasPlace places.old n q → HasPlace places.new n q }
     ensures locks { (n q : ℕ) → q < count → HasPlace locks.old n q → HasPlace locks.new n q }
 {
-    for (place, term) in terms.iter().enumerate().skip(count) {
+    for place in count..terms.len() {
+        let term = &terms[place];
         leave(places, place_of(term), place);
         unlock_seal(locks, term, place);
     }

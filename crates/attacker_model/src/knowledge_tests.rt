@@ -9,7 +9,7 @@ use term_values::{
 /// stamp, a nonce, a text, a tag and a blob; a digit makes a tuple of so many of the last terms; after
 /// the letters `A` to `H` of a key, `$` seals the last term and `!` makes its check. The attacker
 /// learns the last term at `.`; at `+` it derives it, and at `-` it does not.
-const ROWS: [&str; 16] = [
+const ROWS: [&str; 17] = [
     "n+t+r+y+z+x+a-0+nx2+na2-nA$-nA!-",
     "a.a+aA$+nA!+aa2+b-bA$-nAB$-",
     "bA$.b-bA$+bA!-a-nbA$2+",
@@ -26,6 +26,7 @@ const ROWS: [&str; 16] = [
     "0.0.0A$-a.0A$+",
     "a.a.b.a+b+",
     "bA$cB$2.a.ba2.c+",
+    "eAB$.fAC$.gAB$.hDA$.b.e-a.e+g+f-h-c.f+d.h+",
 ];
 
 fn key_of(letters: &[u8]) -> Key {
