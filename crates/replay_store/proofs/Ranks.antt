@@ -1,29 +1,11 @@
--- How many keys of a rising list pass a test.
-use Rattle.std.proofs.Common.{◌≡◌, ◌<◌, ◌≤◌, ℕ, zero, suc, ◌+◌, Bool, true, false, List, [], ◌∷◌, length, get_or, nat_lt, nat_le, ◌==◌, cond, count_by, refl, sym, ◌∙◌, ap, subst, arith, inl, inr, ◌⊎◌, filter, ◌&&◌, ltb-true, leb-true}
-use Rattle.std.specs.List.{AllWithin, insert}
-use Rattle.std.specs.List.Sorted.{IsNonDecreasing}
-use Rattle.std.proofs.lemmas.List.Sorted.{IsNonDecreasingBy-insert}
+-- How many keys of a list pass a test.
+use Rattle.std.proofs.Common.{◌≡◌, ◌<◌, ◌≤◌, ℕ, ◌+◌, Bool, true, false, List, [], ◌∷◌, nat_lt, nat_le, ◌==◌, cond, count_by, refl, sym, ◌∙◌, ap, arith, inl, inr, ◌⊎◌, filter, ◌&&◌, ltb-true}
 use Rattle.std.proofs.lemmas.List.Sums.{sum_by-cons}
-use Rattle.std.proofs.lemmas.Bool.{cases_order, lt-ltb, le-ltb, le-leb, lt-leb, leb-false, eq-eqb, ne_eqb}
+use Rattle.std.proofs.lemmas.Bool.{cases_order, lt-ltb, le-ltb, le-leb, lt-leb, eq-eqb, ne_eqb}
 use Rattle.replay_store.specs.Windows.{below, up_to}
 
 pub count_cons : {X : Type 0} (p : X → Bool) (x : X) (xs : List X) → count_by p (x ∷ xs) ≡ cond (p x) 1 0 + count_by p xs
 count_cons p x xs = sum_by-cons (λ y. cond (p y) 1 0) x xs
-
-none_pass : (p : ℕ → Bool) (xs : List ℕ) → AllWithin (λ y. p y ≡ false) xs 0 (length xs) → count_by p xs ≡ 0
-none_pass p [] a = refl
-none_pass p (x ∷ xs) a =
-    let here : p x ≡ false = a 0 x (omega arith) (omega arith) in
-    count_cons p x xs ∙ rw (here, none_pass p xs (λ k d l h. a (suc k) d (omega arith) (omega arith))) refl
-
--- where the first i pass and no other does, i pass
-pub count_at_point : (p : ℕ → Bool) (xs : List ℕ) (i : ℕ) → i ≤ length xs → AllWithin (λ y. p y ≡ true) xs 0 i → AllWithin (λ y. p y ≡ false) xs i (length xs) → count_by p xs ≡ i
-count_at_point p [] i l a b = omega arith
-count_at_point p (x ∷ xs) zero l a b = none_pass p (x ∷ xs) b
-count_at_point p (x ∷ xs) (suc i) l a b =
-    let here : p x ≡ true = a 0 x (omega arith) (omega arith) in
-    let more : count_by p xs ≡ i = count_at_point p xs i (omega arith) (λ k d low h. a (suc k) d (omega arith) (omega arith)) (λ k d low h. b (suc k) d (omega arith) (omega arith)) in
-    count_cons p x xs ∙ rw (here, more) (omega arith)
 
 one_test : (k key : ℕ) → cond (nat_le k key) 1 0 ≡ cond (nat_lt k key) 1 0 + cond (k == key) 1 0
 one_test k key = go (cases_order k key)
@@ -68,18 +50,3 @@ count_filter p q (k ∷ ks) = one (q k) (count_filter p q ks) ∙ sym (count_con
 
 pub below_up_to : (lo hi : ℕ) → lo ≤ hi + 1 → (ks : List ℕ) → below lo ks ≤ up_to hi ks
 below_up_to lo hi h ks = fewer (λ k. nat_lt k lo) (λ k. nat_le k hi) (λ k e. let l : k < lo = ltb-true k lo e in le-leb k hi (omega arith)) ks
-
--- a rising list rises still once a key stands behind all that are at most it
-pub rising_insert : (xs ys zs : List ℕ) (i key : ℕ) (b : Bool) → IsNonDecreasing xs → ys ≡ xs → i ≤ length ys → AllWithin (λ k. nat_le k key ≡ true) ys 0 i → AllWithin (λ k. nat_le k key ≡ false) ys i (length ys) → zs ≡ cond b (insert xs i key) xs → IsNonDecreasing zs
-rising_insert xs ys zs i key b rising same l before after is = subst IsNonDecreasing (sym is) (by_room b)
-  where
-    placed : (us : List ℕ) → us ≡ xs → i ≤ length us → AllWithin (λ k. nat_le k key ≡ true) us 0 i → AllWithin (λ k. nat_le k key ≡ false) us i (length us) → IsNonDecreasing (insert xs i key)
-    placed us e m f g =
-        subst (λ vs. IsNonDecreasing (insert vs i key)) e
-        (IsNonDecreasingBy-insert (λ k. k) us i key (subst IsNonDecreasing (sym e) rising) m
-        (λ k d h. leb-true _ _ (f k d (omega arith) h))
-        (λ k d h n. let above : key < get_or us k d = leb-false _ _ (g k d h n) in omega arith))
-
-    by_room : (b : Bool) → IsNonDecreasing (cond b (insert xs i key) xs)
-    by_room true = placed ys same l before after
-    by_room false = rising

@@ -2,3 +2,4 @@ pub mod Stamps
 pub mod Stores
 pub mod Held
 pub mod Windows
+pub mod Rising

@@ -11,6 +11,7 @@ mod seen;
 mod store;
 #[cfg(test)]
 mod tests;
+mod tree;
 mod verdict;
 mod window_store;
 
