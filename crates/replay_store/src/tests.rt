@@ -1,3 +1,5 @@
+ghost use Rattle.std.specs.Prelude.{◌<◌};
+
 use super::*;
 use std::process::Abort;
 use std::test::Fail;
@@ -58,6 +60,7 @@ fn judges<T: Store>(rt: &impl Abort, mut store: T) -> Result<(), Fail> {
     let (one, _) = names(rt);
     assert_eq!(rt; number(&store, one, 0), Verdict::Fit);
     accept(&mut store, one, Stamp::Seq(66))?;
+    assert_eq!(rt; number(&store, one, 3), Verdict::Fit);
     accept(&mut store, one, Stamp::Seq(3))?;
     for (at, want) in [
         (2, Verdict::Late { at: 66 }),
@@ -127,31 +130,83 @@ fn forgets_what_is_not_live(rt: HostRuntime) -> Result<(), Fail> {
     Ok(())
 }
 
+/// What is sent at a step.
+#[derive(Drop)]
+struct Sent {
+    sender: Name,
+    tag: Tag,
+    time: Stamp,
+    number: Stamp,
+}
+
+fn sent_at(step: u64, one: Name, two: Name) -> Sent
+    requires { step < 300 }
+{
+    Sent {
+        sender: if step % 3 == 0 { one } else { two },
+        tag: if step % 5 == 0 { TAG } else { OTHER_TAG },
+        time: Stamp::Time(step * 10 + step * 37 % 101 * 10),
+        number: Stamp::Seq(step / 2 + step * 29 % 97),
+    }
+}
+
+/// What both stores say of the time and of the number.
+fn judge_by_both(
+    rt: &impl Abort,
+    plain: &ListStore,
+    window: &WindowStore,
+    clock: u64,
+    sent: &Sent,
+) -> (Verdict, Verdict) {
+    let (sender, tag) = (sent.sender, &sent.tag);
+    let time = plain.probe(clock, StampKind::Time, sender, tag, &sent.time);
+    let same = window.probe(clock, StampKind::Time, sender, tag, &sent.time);
+    assert_eq!(rt; time, same, "the time at {clock}");
+    let number = plain.probe(clock, StampKind::Seq, sender, tag, &sent.number);
+    let same = window.probe(clock, StampKind::Seq, sender, tag, &sent.number);
+    assert_eq!(rt; number, same, "the number at {clock}");
+    (time, number)
+}
+
+fn keep<T: Store>(store: &mut T, said: (Verdict, Verdict), sent: &Sent) -> Result<(), OutOfMemory> {
+    let (sender, tag) = (sent.sender, &sent.tag);
+    store.reserve(1)?;
+    if said.0 == Verdict::Fit {
+        store.record(StampKind::Time, sender, tag, &sent.time);
+    } else {
+        store.restore(sender, tag, &sent.time);
+    }
+    store.reserve(1)?;
+    if said.1 == Verdict::Fit {
+        store.record(StampKind::Seq, sender, tag, &sent.number);
+    } else {
+        store.restore(sender, tag, &sent.number);
+    }
+    Ok(())
+}
+
 #[test]
 fn both_stores_say_the_same(rt: HostRuntime) -> Result<(), Fail> {
     let (one, two) = names(&rt);
     let mut plain = ListStore::new(rt.alloc(), 500);
     let mut window = WindowStore::new(rt.alloc(), 500);
-    for step in 0..300 {
-        let sender = if step % 3 == 0 { one } else { two };
-        let tag = if step % 5 == 0 { TAG } else { OTHER_TAG };
-        let time = Stamp::Time(step * 10 + step * 37 % 101 * 10);
-        let number = Stamp::Seq(step / 2 + step * 29 % 97);
-        for (kind, stamp) in [(StampKind::Time, time), (StampKind::Seq, number)] {
-            let said = plain.probe(step * 11, kind, sender, &tag, &stamp);
-            let same = window.probe(step * 11, kind, sender, &tag, &stamp);
-            assert_eq!(rt; said, same, "at {step}");
-            plain.reserve(1)?;
-            window.reserve(1)?;
-            if said == Verdict::Fit {
-                plain.record(kind, sender, &tag, &stamp);
-                window.record(kind, sender, &tag, &stamp);
-            } else {
-                plain.restore(sender, &tag, &stamp);
-                window.restore(sender, &tag, &stamp);
+    let (mut early, mut late, mut repeated) = (false, false, false);
+    for step in 0..300u64 {
+        for back in [75, 15, 0] {
+            let past = sent_at(step.saturating_sub(back), one, two);
+            match judge_by_both(&rt, &plain, &window, step * 11, &past).0 {
+                Verdict::Early { .. } => early = true,
+                Verdict::Late { .. } => late = true,
+                Verdict::Repeated => repeated = true,
+                _ => {}
             }
         }
+        let now = sent_at(step, one, two);
+        let said = judge_by_both(&rt, &plain, &window, step * 11, &now);
+        keep(&mut plain, said, &now)?;
+        keep(&mut window, said, &now)?;
         assert_eq!(rt; plain.tick(step * 10), window.tick(step * 10));
     }
+    assert!(rt; early && late && repeated);
     Ok(())
 }

@@ -1,4 +1,4 @@
-ghost use Rattle.std.specs.Prelude.{◌≡◌, ◌+◌, ◌^◌, ◌<◌, ◌≤◌, [], ℕ, Bool, List, not, count_by, cond, get_or, ◌&&◌};
+ghost use Rattle.std.specs.Prelude.{◌≡◌, ◌+◌, ◌^◌, ◌<◌, ◌≤◌, [], ℕ, Bool, List, not, count_by, cond, get_or, length, ◌&&◌};
 ghost use Rattle.std.specs.HashMap.{spare};
 ghost use Rattle.replay_store.specs.Stamps.{Accepted, live, number_of};
 ghost use Rattle.replay_store.specs.Windows.{IsPair, Recalls, SeesOneMore, has_key, held_verdict, key_of, kept_count, number_by_seen, pair_of, time_by_keys};
@@ -14,8 +14,8 @@ use std::marker::Model;
 use term_values::{Name, OutOfMemory, Stamp, StampKind, Tag};
 
 /// The store that forgets: it keeps the live times, and for each sender and tag the greatest sequence number with
-/// the window below it. As now rises it forgets each time that isn't live any more. Times are found by halving,
-/// and sequence numbers by a hash of their sender and tag.
+/// the window below it. As now rises it forgets each time that isn't live any more. Times stand in a balanced tree,
+/// and sequence numbers are found by a hash of their sender and tag.
 #[derive(Drop)]
 pub struct WindowStore {
     window: u32,
@@ -165,7 +165,8 @@ impl WindowStore {
     /// How many records the store holds: one for each live time, and one for each sender and tag of which
     /// a sequence number was accepted. Takes no memory.
     pub fn kept(&self) -> usize
-        ensures { let s = self.entry.now in (accepted : List Accepted) → Recalls s accepted → result ≡ kept_count s.window s.now accepted }
+        ensures held { let s = self.entry.now in result ≡ length s.times + length s.numbers }
+        ensures needed { let s = self.entry.now in (accepted : List Accepted) → Recalls s accepted → result ≡ kept_count s.window s.now accepted }
     {
         self.times.len() + self.numbers.len()
     }
