@@ -27,6 +27,7 @@ impl<R: TryRng> RngDraws<R> {
         ensures filled { OnOk result (R.may_fill self.old.source bytes.new self.new.source) }
         ensures counted { OnErr result (self.new.faults ≡ one_more self.old.faults) }
         ensures stays { OnOk result (self.new.faults ≡ self.old.faults) }
+        ensures asked { OnErr result R.Error }
         ensures cause { HasCause self.old.faults self.new.faults result }
     {
         match self.source.try_fill_bytes(bytes) {
@@ -59,6 +60,7 @@ impl<R: TryRng> Draws for RngDraws<R> {
         ensures filled { IfOk result (λ nonce. R.may_fill self.old.source nonce self.new.source) }
         ensures counted { OnErr result (self.new.faults ≡ one_more self.old.faults) }
         ensures stays { OnOk result (self.new.faults ≡ self.old.faults) }
+        ensures asked { OnErr result R.Error }
         ensures cause { HasCause self.old.faults self.new.faults result }
     {
         let mut bytes = [0; 16];
@@ -75,6 +77,7 @@ impl<R: TryRng> Draws for RngDraws<R> {
         ensures filled { IfOk result (λ part. R.may_fill self.old.source part self.new.source) }
         ensures counted { OnErr result (self.new.faults ≡ one_more self.old.faults) }
         ensures stays { OnOk result (self.new.faults ≡ self.old.faults) }
+        ensures asked { OnErr result R.Error }
         ensures cause { HasCause self.old.faults self.new.faults result }
     {
         let mut bytes = [0; 32];

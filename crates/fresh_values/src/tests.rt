@@ -63,6 +63,7 @@ fn stamps_are_issued(rt: HostRuntime) {
         (StampKind::Time, 0, 0, Ok(Stamp::Time(1))),
         (StampKind::Time, 0, 5_000, Ok(Stamp::Time(5_000))),
         (StampKind::Time, 10_000, 10_000, Ok(Stamp::Time(10_001))),
+        (StampKind::Time, 10_000, 4_000, Ok(Stamp::Time(10_001))),
         (StampKind::Seq, 0, 5_000, Ok(Stamp::Seq(1))),
         (StampKind::Seq, u64::MAX - 1, 0, Ok(Stamp::Seq(u64::MAX))),
         (StampKind::Time, u64::MAX, 0, spent),
