@@ -6,13 +6,14 @@ ghost use Rattle.replay_store.specs.Windows.{up_to};
 use std::marker::Model;
 use std::mem;
 
-/// One side of a node may weigh at most so many times as much as the other.
+/// One side of a node may weigh at most so many times as much as the other one.
 const BALANCE: usize = 3;
 
-/// The heavy side's inner part goes over whole where it weighs less than so many times as much as the outer one.
+/// A single rotation does where the inner part of the heavy side weighs less than so many times as much as the outer part.
 const SINGLE: usize = 2;
 
-/// Keys in rising order, each as often as it was added, in a binary tree that is balanced by weight.
+/// Keys in rising order, each as often as it was added, in a binary tree that is balanced by weight. So its depth is
+/// logarithmic in the number of keys; no clause says so.
 #[cycle(tree)]
 #[derive(Drop)]
 pub(crate) struct Tree {
@@ -118,7 +119,7 @@ impl Tree {
         }
     }
 
-    /// With the node's key.
+    /// With the key of this node too.
     #[tactic(auto, using(crate::proofs::Rising::length_fork, crate::proofs::Rising::length_placed, crate::proofs::Rising::rises_left, crate::proofs::Rising::rises_right, crate::proofs::Rising::placed_left, crate::proofs::Rising::placed_right))]
     pub fn add(self, node: Box<Node>) -> Tree
         requires rising { Rises self }
@@ -128,26 +129,26 @@ impl Tree {
         if self.len() == 0 {
             return fork(self, node, Tree::empty());
         }
-        let (left, top, right) = self.apart();
+        let (left, top, right) = self.into_parts();
         if node.key < top.key {
-            settle(left.add(node), top, right)
+            rebalance(left.add(node), top, right)
         } else {
-            settle(left, top, right.add(node))
+            rebalance(left, top, right.add(node))
         }
     }
 
-    /// Without the keys whose time is before this one. Their memory is put by.
+    /// Without the keys whose time is before this one. Their nodes become unused. Goes only where there are such keys.
     #[tactic(auto, using(crate::proofs::Rising::length_fork, crate::proofs::Rising::filter_all, crate::proofs::Rising::filter_with, crate::proofs::Rising::filter_without, crate::proofs::Rising::filter_shorter))]
     pub fn forget_before(self, time: u64, unused: &mut Vec<Box<Node>>) -> Tree
         requires fits { length self + vec_len unused.old ≤ vec_capacity unused.old }
         ensures keys { result ≡ filter (λ k. nat_le time (k % 2 ^ 64)) self }
-        ensures put_by { length result + vec_len unused.new ≡ length self + vec_len unused.old }
+        ensures nodes { length result + vec_len unused.new ≡ length self + vec_len unused.old }
         ensures room { vec_capacity unused.new ≡ vec_capacity unused.old }
     {
         if self.oldest() >= time {
             return self;
         }
-        let (left, top, right) = self.apart();
+        let (left, top, right) = self.into_parts();
         let left = left.forget_before(time, unused);
         let right = right.forget_before(time, unused);
         if top.time() >= time {
@@ -165,7 +166,7 @@ impl Tree {
         self.len() + 1
     }
 
-    /// Whether this is too heavy to be beside the other.
+    /// Whether this is too heavy to stand beside the other.
     fn outweighs(&self, other: &Tree) -> bool
         requires here { length self.now < 2 ^ 63 }
         requires there { length other.now < 2 ^ 63 }
@@ -175,7 +176,7 @@ impl Tree {
     }
 
     /// The top node and its sides.
-    fn apart(self) -> (Tree, Box<Node>, Tree)
+    fn into_parts(self) -> (Tree, Box<Node>, Tree)
         requires { 0 < length self }
         ensures { self ≡ result.0 ++ result.1.value.key ∷ result.2 }
     {
@@ -191,17 +192,17 @@ impl Tree {
 
     /// The node of the first key, and the others.
     #[tactic(auto, using(crate::proofs::Rising::length_fork))]
-    fn first(self) -> (Box<Node>, Tree)
+    fn split_first(self) -> (Box<Node>, Tree)
         requires some { 0 < length self }
         requires fits { length self < 2 ^ 63 }
         ensures { self ≡ result.0.value.key ∷ result.1 }
     {
-        let (left, top, right) = self.apart();
+        let (left, top, right) = self.into_parts();
         if left.len() == 0 {
             return (top, right);
         }
-        let (first, rest) = left.first();
-        (first, settle(rest, top, right))
+        let (first, rest) = left.split_first();
+        (first, rebalance(rest, top, right))
     }
 }
 
@@ -218,45 +219,45 @@ fn fork(left: Tree, mut node: Box<Node>, right: Tree) -> Tree
     Tree { top: Some(node) }
 }
 
-/// The node between both sides, where the right one is too heavy.
+/// The node between both sides, of which the right one is too heavy.
 #[tactic(auto, using(crate::proofs::Rising::length_fork))]
-fn turn_left(left: Tree, node: Box<Node>, right: Tree) -> Tree
+fn rotate_left(left: Tree, node: Box<Node>, right: Tree) -> Tree
     requires some { 0 < length right }
     requires fits { length left + length right + 1 < 2 ^ 63 }
     ensures { result ≡ left ++ node.value.key ∷ right }
 {
-    let (inner, top, outer) = right.apart();
+    let (inner, top, outer) = right.into_parts();
     if inner.weight() < outer.weight().saturating_mul(SINGLE) {
         return fork(fork(left, node, inner), top, outer);
     }
-    let (low, middle, high) = inner.apart();
+    let (low, middle, high) = inner.into_parts();
     fork(fork(left, node, low), middle, fork(high, top, outer))
 }
 
-/// The node between both sides, where the left one is too heavy.
+/// The node between both sides, of which the left one is too heavy.
 #[tactic(auto, using(crate::proofs::Rising::length_fork))]
-fn turn_right(left: Tree, node: Box<Node>, right: Tree) -> Tree
+fn rotate_right(left: Tree, node: Box<Node>, right: Tree) -> Tree
     requires some { 0 < length left }
     requires fits { length left + length right + 1 < 2 ^ 63 }
     ensures { result ≡ left ++ node.value.key ∷ right }
 {
-    let (outer, top, inner) = left.apart();
+    let (outer, top, inner) = left.into_parts();
     if inner.weight() < outer.weight().saturating_mul(SINGLE) {
         return fork(outer, top, fork(inner, node, right));
     }
-    let (low, middle, high) = inner.apart();
+    let (low, middle, high) = inner.into_parts();
     fork(fork(outer, top, low), middle, fork(high, node, right))
 }
 
-/// The node between both sides, of which one may have become a little too heavy.
-fn settle(left: Tree, node: Box<Node>, right: Tree) -> Tree
+/// The node between both sides, of which one may be too heavy by one key.
+fn rebalance(left: Tree, node: Box<Node>, right: Tree) -> Tree
     requires fits { length left + length right + 1 < 2 ^ 63 }
     ensures { result ≡ left ++ node.value.key ∷ right }
 {
     if right.outweighs(&left) {
-        turn_left(left, node, right)
+        rotate_left(left, node, right)
     } else if left.outweighs(&right) {
-        turn_right(left, node, right)
+        rotate_right(left, node, right)
     } else {
         fork(left, node, right)
     }
@@ -269,11 +270,11 @@ fn link(left: Tree, node: Box<Node>, right: Tree) -> Tree
     ensures { result ≡ left ++ node.value.key ∷ right }
 {
     if right.outweighs(&left) {
-        let (inner, top, outer) = right.apart();
-        settle(link(left, node, inner), top, outer)
+        let (inner, top, outer) = right.into_parts();
+        rebalance(link(left, node, inner), top, outer)
     } else if left.outweighs(&right) {
-        let (outer, top, inner) = left.apart();
-        settle(outer, top, link(inner, node, right))
+        let (outer, top, inner) = left.into_parts();
+        rebalance(outer, top, link(inner, node, right))
     } else {
         fork(left, node, right)
     }
@@ -288,6 +289,6 @@ fn join(left: Tree, right: Tree) -> Tree
     if right.len() == 0 {
         return left;
     }
-    let (first, rest) = right.first();
+    let (first, rest) = right.split_first();
     link(left, first, rest)
 }

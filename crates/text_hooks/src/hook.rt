@@ -9,19 +9,21 @@ use mech_rows::{Mech, Slot};
 /// A judgement on texts in a box: of a mechanism, a slot and a text.
 pub type Judgement = Box<dyn Fn(Mech, Slot, &[u8]) -> bool + Send + Sync>;
 
-/// A stored judgement beside the fact that on every text of at most 1,024 bytes it answers what the rules allow.
+/// A stored judgement beside the facts that it can be called on every text of at most 1,024 bytes, and that it answers
+/// what the rules allow there.
 #[derive(Drop)]
 pub struct Hook {
     rules: Vec<Rule>,
     judgement: Judgement,
-    ghost callable: { Judgement.IsAlwaysCallable judgement },
+    ghost callable: { (mech : Mech) (slot : Slot) (text : _) → length text.now ≤ 1024 → Judgement.pre judgement mech slot text },
     ghost answers: { (mech : Mech) (slot : Slot) (text : _) (answer : Bool) → length text.now ≤ 1024 → Judgement.post judgement mech slot text answer → answer ≡ allowed rules.items mech slot text.now },
 }
 
 impl Hook {
-    /// Keeps a judgement that answers, on every text of at most 1,024 bytes, what these rules allow. Takes no memory.
+    /// Keeps a judgement that can be called on every text of at most 1,024 bytes, and answers there what these rules allow.
+    /// Takes no memory.
     pub fn new(rules: Vec<Rule>, judgement: Judgement) -> Hook
-        requires callable { Judgement.IsAlwaysCallable judgement }
+        requires callable { (mech : Mech) (slot : Slot) (text : _) → length text.now ≤ 1024 → Judgement.pre judgement mech slot text }
         requires answers { (mech : Mech) (slot : Slot) (text : _) (answer : Bool) → length text.now ≤ 1024 → Judgement.post judgement mech slot text answer → answer ≡ allowed rules.items mech slot text.now }
         ensures { result.rules.items ≡ rules.items }
     {
