@@ -3,3 +3,4 @@ pub mod Stores
 pub mod Held
 pub mod Windows
 pub mod Rising
+pub mod Falls

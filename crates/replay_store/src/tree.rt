@@ -46,9 +46,9 @@ impl Model for Tree {
 
     ghost size = { length };
 
-    ghost use Rattle.std.proofs.Common.{arith, length-append};
+    ghost use Rattle.replay_store.specs.Falls.{tree_falls};
 
-    ghost size_decreases = { λ a h. Prim.grind (arith, length-append) };
+    ghost size_decreases = { λ t h. tree_falls t.top };
 }
 
 impl Node {
