@@ -92,10 +92,10 @@ after_both sent w ws m = marks_are (after_all sent ws (after sent w m)) (after_a
 abbrev pub at : List ℕ → Marks → State
 at rest m = record { rest = rest; marks = m }
 
-upto_is : (n k : ℕ) → k ≤ n → upto n k ≡ true
+pub upto_is : (n k : ℕ) → k ≤ n → upto n k ≡ true
 upto_is n k h = grind (arith, nat_tests)
 
-just_is : (n k : ℕ) → k ≡ n → just n k ≡ true
+pub just_is : (n k : ℕ) → k ≡ n → just n k ≡ true
 just_is n k h = eq-eqb k n h
 
 key_again : (k : Key) (rest : List ℕ) → IsKeyOfParts k → key_at (key_notation k ++ 124 ∷ rest) ≡ Some (k, 124 ∷ rest)

@@ -2,7 +2,12 @@ pub mod Again
 pub mod Commas
 pub mod Digits
 pub mod Laws
+pub mod LineAgain
+pub mod LineSound
+pub mod LineTexts
 pub mod Loop
 pub mod Prints
 pub mod Readings
+pub mod Slots
+pub mod Spelled
 pub mod Words

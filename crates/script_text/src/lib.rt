@@ -2,6 +2,9 @@
 #![tactic(auto)]
 
 mod bad;
+mod line;
+mod line_words;
+mod lines;
 mod printing;
 mod reading;
 mod refusals;
@@ -10,6 +13,8 @@ mod terms;
 mod tests;
 
 pub use bad::BadLine;
+pub use line::Line;
+pub use lines::{one_line, read_line};
 pub use printing::{one_form, print_term};
 pub use refusals::print_refusal;
 pub use terms::{one_reading, read_term};

@@ -212,7 +212,7 @@ pub(crate) struct Reader<'a> {
 
 impl<'a> Reader<'a> {
     #[tactic(auto, unfolding(crate::specs::Reading::byte_at))]
-    fn byte(&mut self) -> Result<u8, ReadFault>
+    pub(crate) fn byte(&mut self) -> Result<u8, ReadFault>
         ensures { Reads (λ b. b) result self.new.rest.now (byte_at self.old.rest.now) }
     {
         match self.rest {
@@ -226,7 +226,7 @@ impl<'a> Reader<'a> {
 
     /// Takes the character that has to come.
     #[tactic(auto, unfolding(crate::specs::Reading::mark_at))]
-    fn mark(&mut self, mark: u8) -> Result<(), ReadFault>
+    pub(crate) fn mark(&mut self, mark: u8) -> Result<(), ReadFault>
         ensures { Reads (λ u. u) result self.new.rest.now (mark_at mark self.old.rest.now) }
     {
         match self.rest {
@@ -311,7 +311,7 @@ impl<'a> Reader<'a> {
 
     /// Takes a number below 2 ^ 64.
     #[tactic(auto, unfolding(crate::specs::Reading::number_at))]
-    fn u64(&mut self) -> Result<u64, ReadFault>
+    pub(crate) fn u64(&mut self) -> Result<u64, ReadFault>
         ensures { Reads (λ n. n) result self.new.rest.now (number_at (2 ^ 64) self.old.rest.now) }
     {
         let digits = self.numeral()?;
@@ -334,7 +334,7 @@ impl<'a> Reader<'a> {
 
     /// Takes a number below 2 ^ 32.
     #[tactic(auto, unfolding(crate::specs::Reading::number_at))]
-    fn u32(&mut self) -> Result<u32, ReadFault>
+    pub(crate) fn u32(&mut self) -> Result<u32, ReadFault>
         ensures { Reads (λ n. n) result self.new.rest.now (number_at (2 ^ 32) self.old.rest.now) }
     {
         let digits = self.numeral()?;
@@ -344,7 +344,7 @@ impl<'a> Reader<'a> {
         }
     }
 
-    fn part(&mut self) -> Result<Part, ReadFault>
+    pub(crate) fn part(&mut self) -> Result<Part, ReadFault>
         ensures { Reads (λ p. p) result self.new.rest.now (bytes_at (just 64) self.old.rest.now) }
     {
         let mut part = [0; 32];
@@ -368,7 +368,7 @@ impl<'a> Reader<'a> {
         Ok(Tag(tag))
     }
 
-    fn text(&mut self, alloc: Global) -> Result<Text, ReadFault>
+    pub(crate) fn text(&mut self, alloc: Global) -> Result<Text, ReadFault>
         ensures { Reads (λ t. t) result self.new.rest.now (bytes_at (upto 2048) self.old.rest.now) }
     {
         let bytes = self.bytes(alloc, 2048)?;

@@ -1,4 +1,4 @@
-use crate::{BadLine, print_refusal, print_term, read_term};
+use crate::{BadLine, Line, print_refusal, print_term, read_line, read_term};
 use mech_rows::{Refusal, Slot};
 use std::alloc::Global;
 use std::process::Abort;
@@ -254,5 +254,147 @@ fn refusals_are_printed(rt: HostRuntime) -> Result<(), Fail> {
         let printed = print_refusal(rt.alloc(), refusal)?;
         assert_eq!(rt; printed.as_slice(), line.as_bytes());
     }
+    Ok(())
+}
+
+/// Lines that are read, with the place of what they say among the lines.
+const LINES: [(&str, u8); 27] = [
+    ("", 8),
+    ("#", 8),
+    ("# party 1", 8),
+    ("#\t", 8),
+    ("party 1 time 0", 0),
+    ("party 4294967295 time 600000", 0),
+    ("party\t7\ttime\t5000", 0),
+    ("party 7 seq", 0),
+    (
+        "pair 1 2 aaaaaaaaaaaaaaaaaaaaaaaaaaaaaaaaaaaaaaaaaaaaaaaaaaaaaaaaaaaaaaaa",
+        1,
+    ),
+    (
+        "pair 1 2 aaaaaaaaaaaaaaaaaaaaaaaaaaaaaaaaaaaaaaaaaaaaaaaaaaaaaaaaaaaaaaaa revealed",
+        1,
+    ),
+    (
+        "own aaaaaaaaaaaaaaaaaaaaaaaaaaaaaaaaaaaaaaaaaaaaaaaaaaaaaaaaaaaaaaaa",
+        2,
+    ),
+    ("allow E1 X1 0 -", 3),
+    ("allow C4 X9 1024 00ff", 3),
+    ("clock 1 0", 4),
+    ("clock 1 18446744073709551615", 4),
+    ("open E1 A 1 2", 5),
+    ("open E2 B 2 1 X1=", 5),
+    ("open E3 B 1 2 X3=00 X4=0aff", 5),
+    ("open E4 B 1 2 X5= X1= X4=", 5),
+    ("open C1 A 1 2 X2= X1=", 5),
+    ("open C2 A 1 2 X3=", 5),
+    ("open C3 A 1 2 X1=", 5),
+    ("open C4 A 1 2 X2= X3=", 5),
+    ("give 0 N:1", 6),
+    ("give 4294967295 @1", 6),
+    ("drop 0", 7),
+    ("drop 4294967295", 7),
+];
+
+/// Lines with a fault of grammar, where one message was sent.
+const NO_LINES: [&str; 65] = [
+    " ",
+    "\t",
+    " #",
+    "party",
+    "party 0 seq",
+    "party 01 seq",
+    "party 4294967296 seq",
+    "party 1 seq 5000",
+    "party 1 time",
+    "party 1 time 600001",
+    "party 1 time 01",
+    "party  1 seq",
+    " party 1 seq",
+    "party 1 seq ",
+    "party 1 seq\r",
+    "party 1 seq\0",
+    "Party 1 seq",
+    "party 1 time 5 5",
+    "pair 1 2",
+    "pair 1 2 aaaaaaaaaaaaaaaaaaaaaaaaaaaaaaaaaaaaaaaaaaaaaaaaaaaaaaaaaaaaaaa",
+    "pair 1 2 aaaaaaaaaaaaaaaaaaaaaaaaaaaaaaaaaaaaaaaaaaaaaaaaaaaaaaaaaaaaaaaaa",
+    "pair 1 2 AAAAAAAAAAAAAAAAAAAAAAAAAAAAAAAAAAAAAAAAAAAAAAAAAAAAAAAAAAAAAAAA",
+    "pair 1 2 aaaaaaaaaaaaaaaaaaaaaaaaaaaaaaaaaaaaaaaaaaaaaaaaaaaaaaaaaaaaaaaa Revealed",
+    "pair 1 2 aaaaaaaaaaaaaaaaaaaaaaaaaaaaaaaaaaaaaaaaaaaaaaaaaaaaaaaaaaaaaaaa revealed x",
+    "own",
+    "own -",
+    "own aaaaaaaaaaaaaaaaaaaaaaaaaaaaaaaaaaaaaaaaaaaaaaaaaaaaaaaaaaaaaaaa x",
+    "allow E5 X1 0 -",
+    "allow E1 X0 0 -",
+    "allow E1 X10 0 -",
+    "allow E1 Ta 0 -",
+    "allow E1 X1 1025 -",
+    "allow E1 X1 00 -",
+    "allow E1 X1 0 --",
+    "allow E1 X1 0 0",
+    "allow E1 X1 0 0A",
+    "allow E1 X1 0",
+    "clock 1",
+    "clock 1 18446744073709551616",
+    "clock 0 1",
+    "open E5 A 1 2",
+    "open K3 A 1 2",
+    "open E1 P 1 2",
+    "open E1 C 1 2",
+    "open E1 A 1",
+    "open E1 B 1 2 X1=",
+    "open E1 A 1 2 X3=",
+    "open E1 A 1 2 X1= X1=",
+    "open E1 A 1 2 X1",
+    "open E1 A 1 2 X1=0",
+    "open E2 A 1 2 X1=",
+    "open C4 B 1 2 X2=",
+    "give 1",
+    "give 4294967296 N:1",
+    "give 1 N:01",
+    "give 1 N:1 ",
+    "give 01 @2",
+    "give x @2",
+    "give 1 (@2,N:0)",
+    "drop",
+    "drop -1",
+    "drop 4294967296",
+    "server 9 seq",
+    "raw 1 00",
+    "key 1 -",
+];
+
+/// The place of what a line says among the lines.
+fn place(line: &Line) -> u8 {
+    match line {
+        Line::Party { .. } => 0,
+        Line::Pair { .. } => 1,
+        Line::Own { .. } => 2,
+        Line::Allow { .. } => 3,
+        Line::Clock { .. } => 4,
+        Line::Open { .. } => 5,
+        Line::Give { .. } => 6,
+        Line::Drop { .. } => 7,
+        Line::Empty => 8,
+    }
+}
+
+#[test]
+fn lines_are_read(rt: HostRuntime) -> Result<(), Fail> {
+    let alloc = rt.alloc();
+    let sent = vec![in alloc; read_term(alloc, b"N:1", &[])?]?;
+    for (text, wanted) in &LINES {
+        let line = read_line(alloc, text.as_bytes(), &sent)?;
+        assert_eq!(rt; place(&line), *wanted);
+    }
+    for text in &NO_LINES {
+        let reason = read_line(alloc, text.as_bytes(), &sent).err();
+        assert!(rt; reason == Some(BadLine::Grammar));
+    }
+    assert!(rt; read_line(alloc, b"#\xff\x00", &sent).is_ok());
+    assert!(rt; read_line(alloc, b"drop \xff", &sent).err() == Some(BadLine::Grammar));
+    assert!(rt; read_line(alloc, b"give 1 @2", &sent).err() == Some(BadLine::Reference));
     Ok(())
 }
