@@ -1,6 +1,7 @@
 pub mod Again
 pub mod Commas
 pub mod Digits
+pub mod FewWords
 pub mod Laws
 pub mod LineAgain
 pub mod LineSound

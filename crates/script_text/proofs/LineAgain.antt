@@ -1,9 +1,9 @@
 -- The words of a line are read as what they say, and as nothing else.
-use Rattle.std.proofs.Common.{◌≡◌, ◌⊎◌, ℕ, ◌+◌, ◌*◌, ◌^◌, ◌<◌, ◌≤◌, Bool, true, false, not, ◌&&◌, cond, ltb, eqb, List, [], ◌∷◌, ◌++◌, length, map, refl, sym, ap, subst, ◌∙◌, append_assoc, arith, rules, inl, inr}
+use Rattle.std.proofs.Common.{◌≡◌, ℕ, ◌+◌, ◌*◌, ◌^◌, ◌<◌, ◌≤◌, Bool, true, false, ◌&&◌, cond, ltb, eqb, List, [], ◌∷◌, ◌++◌, length, map, refl, sym, ap, subst, ◌∙◌, append_assoc, arith}
 use Rattle.std.specs.Prelude.{Option, Some, None, codes, is_some}
 use Rattle.std.specs.Str.{bytes_eq}
 use Rattle.std.specs.Fmt.{decimal}
-use Rattle.std.proofs.lemmas.Bool.{eq-eqb, lt-ltb}
+use Rattle.std.proofs.lemmas.Bool.{lt-ltb}
 use Rattle.std.proofs.lemmas.Bool.Decides.{nat_tests}
 use Rattle.std.proofs.lemmas.List.{append-nil}
 use Rattle.hex.specs.Hex.{encode_lower, lower_digits}
@@ -17,17 +17,15 @@ use Rattle.mech_rows.specs.declared.kinds.Slot.{Slot}
 use Rattle.mech_rows.specs.declared.kinds.Slot.TheVariants.{Ra, Rb, Ra2, Ta, Tb, Tp, Fa, Fb, X1, X2, X3, X4, X5, X6, X7, X8, X9, Fwd}
 use Rattle.mech_rows.specs.Found.{found, Once}
 use Rattle.mech_rows.specs.Facts.{same_slot}
-use Rattle.script_text.specs.declared.line.Line.{Line}
-use Rattle.script_text.specs.declared.line.Line.TheVariants as line
-use Rattle.script_text.specs.Notation.{AreBytes, IsReading, Written, is_named, notation, replaced}
-use Rattle.script_text.specs.Lines.{WrittenLine, AreLineValues, AreSentTexts, IsLine, IsNameNumber, IsTextBytes, IsWrittenSo, SlotTexts, is_end, is_line_named, is_offered, is_silent, is_text, line_words, mech_name, prefix_word, role_name, said, sends_text, silent, time_party, seq_party, secret_pair, revealed_pair, own, allow, clock, opening, give, drop, text_word, words_of}
-use Rattle.script_text.specs.LineReading.{mech_in, name_in, number_below, number_in, part_in, plain_words, prefix_in, role_in, slot_at, slot_in, slot_of_digit, text_at, text_in, texts_from, whole}
-use Rattle.script_text.specs.Reading.{◌>>=◌, byte_at, bytes_at, just, mark_at, number_at, upto}
+use Rattle.script_text.specs.Notation.{AreBytes}
+use Rattle.script_text.specs.Lines.{WrittenLine, AreLineValues, AreSentTexts, IsNameNumber, IsTextBytes, SlotTexts, is_end, is_offered, is_text, line_words, mech_name, prefix_word, role_name, said, silent, time_party, seq_party, secret_pair, revealed_pair, own, allow, clock, opening, give, drop, text_word}
+use Rattle.script_text.specs.LineReading.{mech_in, name_in, number_below, number_in, part_in, plain_words, prefix_in, role_in, slot_at, slot_in, text_at, text_in, texts_from, whole}
+use Rattle.script_text.specs.Reading.{byte_at, bytes_at, just, mark_at, number_at, upto}
 use Rattle.script_text.specs.Refusals.{slot_name}
 use Rattle.script_text.proofs.Again.{just_is, upto_is}
 use Rattle.script_text.proofs.LineSound.{is_loud}
 use Rattle.script_text.proofs.Slots.{apart}
-use Rattle.script_text.proofs.Spelled.{and_left, and_right}
+use Rattle.script_text.proofs.Spelled.{and_left}
 use Rattle.script_text.proofs.Words.{bytes_again, number_again}
 
 -- ---- numbers and parts
@@ -131,7 +129,7 @@ prefix_in_is (b ∷ bs) fits =
     let two = length_two (encode_lower (b ∷ bs)) (length bs) len in
     rw (two.0, two.1, digits_in_is (b ∷ bs) fits) refl
 
-cond_none : {X : Type 0} (b : Bool) (v : X) (p : Option X) → cond b (Some v) p ≡ None → (b ≡ false) × (p ≡ None)
+pub cond_none : {X : Type 0} (b : Bool) (v : X) (p : Option X) → cond b (Some v) p ≡ None → (b ≡ false) × (p ≡ None)
 cond_none true v p e = absurd cc
 cond_none false v p e = (refl, e)
 
@@ -177,4 +175,3 @@ plain_is sent (opening mech role a b texts) plain values =
     rw (mech_in_is mech values.0, role_in_is role values.1, name_in_is a values.2, name_in_is b values.3, texts_from_is mech role [] texts values.4 values.5) refl
 plain_is sent (give run term) plain values = absurd cc
 plain_is sent (drop run) plain values = rw (number_in_is (2 ^ 32) run (omega arith) values) refl
-

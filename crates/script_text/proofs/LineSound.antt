@@ -1,21 +1,17 @@
 -- What the words of a line were read as is what they say.
-use Rattle.std.proofs.Common.{◌≡◌, ◌⊎◌, ℕ, ◌^◌, ◌<◌, ◌≤◌, Bool, true, false, ◌&&◌, cond, eqb, List, [], ◌∷◌, ◌++◌, length, map, refl, sym, ap, subst, ◌∙◌, arith, rules, inl, inr}
-use Rattle.std.specs.Prelude.{Option, Some, None, codes}
+use Rattle.std.proofs.Common.{◌≡◌, ℕ, ◌^◌, Bool, true, false, ◌&&◌, List, [], ◌∷◌, refl, sym, ap, subst, ◌∙◌, arith, inl, inr}
+use Rattle.std.specs.Prelude.{Some, None, codes}
 use Rattle.std.specs.Str.{bytes_eq}
 use Rattle.std.specs.Fmt.{decimal}
 use Rattle.hex.specs.Hex.{encode_lower}
 use Rattle.term_values.specs.Trees.{Tree}
 use Rattle.term_values.specs.declared.small.StampKind.TheVariants.{Time, Seq}
-use Rattle.mech_rows.specs.declared.kinds.Mech.{Mech}
-use Rattle.mech_rows.specs.declared.kinds.Role.{Role}
-use Rattle.mech_rows.specs.declared.kinds.Slot.{Slot}
 use Rattle.mech_rows.specs.Found.{Once}
 use Rattle.script_text.specs.declared.line.Line.{Line}
 use Rattle.script_text.specs.declared.line.Line.TheVariants as line
-use Rattle.script_text.specs.Notation.{AreBytes, IsReading, Written, is_named, replaced}
-use Rattle.script_text.specs.Lines.{WrittenLine, AreLineValues, IsLine, IsNameNumber, IsWrittenSo, SlotTexts, is_line_named, is_silent, line_words, mech_name, prefix_word, role_name, said, silent, time_party, seq_party, secret_pair, revealed_pair, own, allow, clock, opening, give, drop, text_word, words_of}
+use Rattle.script_text.specs.Notation.{AreBytes}
+use Rattle.script_text.specs.Lines.{WrittenLine, AreLineValues, IsNameNumber, is_line_named, line_words, mech_name, role_name, said, silent, time_party, seq_party, secret_pair, revealed_pair, own, allow, clock, opening, drop}
 use Rattle.script_text.specs.LineReading.{allow_words, five_at_most, five_words, four_words, mech_in, name_in, number_below, number_in, open_words, pair_words, part_in, plain_words, prefix_in, role_in, slot_in, texts_from, three_words, two_words}
-use Rattle.script_text.specs.Reading.{◌>>=◌}
 use Rattle.script_text.specs.Refusals.{slot_name}
 use Rattle.script_text.proofs.Spelled.{and_left, and_right, mech_in_some, name_in_some, number_below_some, number_in_some, part_in_some, prefix_in_some, role_in_some, same_text, slot_in_some, texts_from_some}
 use Rattle.script_text.proofs.Words.{bind_some, chosen, held_some, some_is}

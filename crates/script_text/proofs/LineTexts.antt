@@ -1,5 +1,5 @@
 -- A text is a line where its words are the line's.
-use Rattle.std.proofs.Common.{◌≡◌, ℕ, ◌^◌, ◌<◌, Bool, true, false, ◌&&◌, ◌||◌, cond, eqb, List, [], ◌∷◌, length, map, slice_index_or, refl, sym, ap, subst, ◌∙◌, arith, inl, inr}
+use Rattle.std.proofs.Common.{◌≡◌, ℕ, ◌^◌, Bool, true, false, cond, eqb, List, [], ◌∷◌, length, map, slice_index_or, refl, sym, ap, subst, ◌∙◌, arith, inl, inr}
 use Rattle.std.specs.Prelude.{Option, Some, None, codes, IfOk, IsTrue, Result, Ok, Err, ◌⊎◌}
 use Rattle.std.specs.List.{onto_first}
 use Rattle.std.proofs.lemmas.Bool.{eqb-true}
@@ -13,10 +13,10 @@ use Rattle.script_text.specs.declared.bad.BadLine.{BadLine}
 use Rattle.script_text.specs.declared.bad.BadLine.TheVariants as bad
 use Rattle.script_text.specs.Faults.{bad_of}
 use Rattle.script_text.specs.Notation.{IsReading, Written, is_named, notation, replaced}
-use Rattle.script_text.specs.Lines.{WrittenLine, AreLineValues, IsLine, IsWrittenSo, is_blank, is_line_named, is_silent, line_words, said, silent, time_party, seq_party, secret_pair, revealed_pair, own, allow, clock, opening, give, drop, words_of}
+use Rattle.script_text.specs.Lines.{WrittenLine, IsLine, IsWrittenSo, is_blank, is_line_named, is_silent, line_words, said, silent, time_party, seq_party, secret_pair, revealed_pair, own, allow, clock, opening, give, drop, words_of}
 use Rattle.script_text.specs.LineReading.{Gives, IsGiveWords, number_in, plain_words}
 use Rattle.script_text.proofs.LineAgain.{is_plain, number_in_is, plain_is}
-use Rattle.script_text.proofs.LineSound.{Says, is_loud, words_say}
+use Rattle.script_text.proofs.LineSound.{is_loud, words_say}
 use Rattle.script_text.proofs.Readings.{one_reading_is}
 use Rattle.script_text.proofs.Spelled.{number_in_some}
 use Rattle.script_text.proofs.Words.{some_is}
@@ -51,7 +51,7 @@ line_first (opening m r a b ts) h = refl
 line_first (give n w) h = refl
 line_first (drop n) h = refl
 
-not_both : (b : Bool) → b ≡ true → b ≡ false → ⊥
+pub not_both : (b : Bool) → b ≡ true → b ≡ false → ⊥
 not_both b p q = absurd (let never : true ≡ false = sym p ∙ q in cc)
 
 -- no text says nothing and has a line's words

@@ -1,6 +1,6 @@
 -- What is read from the words of a line is what they say.
-use Rattle.std.proofs.Common.{◌≡◌, ◌⊎◌, ℕ, zero, suc, ◌+◌, ◌*◌, ◌^◌, ◌<◌, ◌≤◌, Bool, true, false, not, ◌&&◌, cond, ltb, eqb, List, [], ◌∷◌, ◌++◌, length, map, refl, sym, ap, subst, ◌∙◌, append_assoc, arith, rules, inl, inr}
-use Rattle.std.specs.Prelude.{Option, Some, None, codes, is_some}
+use Rattle.std.proofs.Common.{◌≡◌, ℕ, ◌*◌, ◌^◌, ◌<◌, ◌≤◌, Bool, true, false, not, ◌&&◌, cond, ltb, eqb, List, [], ◌∷◌, ◌++◌, length, map, refl, sym, ap, subst, ◌∙◌, append_assoc, arith, rules, inl, inr}
+use Rattle.std.specs.Prelude.{Some, None, codes, is_some}
 use Rattle.std.specs.Str.{bytes_eq}
 use Rattle.std.specs.Fmt.{decimal}
 use Rattle.std.proofs.lemmas.Bool.{eqb-true, ltb-true}
@@ -18,7 +18,7 @@ use Rattle.mech_rows.specs.Found.{found, Once}
 use Rattle.script_text.specs.Notation.{AreBytes}
 use Rattle.script_text.specs.Lines.{SlotTexts, AreSentTexts, IsNameNumber, IsTextBytes, is_end, is_offered, is_text, mech_name, prefix_word, role_name, sends_text, text_word}
 use Rattle.script_text.specs.LineReading.{mech_in, name_in, number_below, number_in, part_in, prefix_in, role_in, slot_at, slot_in, slot_of_digit, text_at, text_in, texts_from, whole}
-use Rattle.script_text.specs.Reading.{◌>>=◌, Read, byte_at, bytes_at, just, mark_at, number_at, upto}
+use Rattle.script_text.specs.Reading.{Read, byte_at, bytes_at, just, mark_at, number_at, upto}
 use Rattle.script_text.specs.Refusals.{slot_name}
 use Rattle.script_text.proofs.Readings.{is_nil}
 use Rattle.script_text.proofs.Slots.{once_more}

@@ -14,7 +14,7 @@ use Rattle.script_text.specs.declared.line.Line.{Line}
 use Rattle.script_text.specs.declared.line.Line.TheVariants as line
 use Rattle.script_text.specs.declared.reading.ReadFault.{ReadFault}
 use Rattle.script_text.specs.declared.reading.ReadFault.TheVariants.{Memory, Malformed}
-use Rattle.script_text.specs.Lines.{SlotTexts, is_silent, sends_text, words_of}
+use Rattle.script_text.specs.Lines.{SlotTexts, sends_text}
 use Rattle.script_text.specs.Reading.{◌>>=◌, Read, byte_at, bytes_at, just, mark_at, number_at, upto}
 
 -- what a reader of words returned, seen by view, is what the words say, unless memory ran out

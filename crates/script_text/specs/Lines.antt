@@ -1,6 +1,6 @@
 -- The lines of a script: the words of each, the limits of their values, and what each says.
-use Rattle.std.specs.Prelude.{◌≡◌, ◌<◌, ◌≤◌, ◌^◌, ◌==◌, ℕ, Bool, true, false, ◌&&◌, ◌||◌, List, [], ◌∷◌, ◌++◌, length, map, codes, Option, None}
-use Rattle.std.specs.List.{list_all, list_any, slice_split}
+use Rattle.std.specs.Prelude.{◌≡◌, ◌<◌, ◌≤◌, ◌^◌, ◌==◌, ℕ, Bool, true, false, ◌&&◌, ◌||◌, List, [], ◌∷◌, ◌++◌, length, map, codes, None}
+use Rattle.std.specs.List.{list_any, slice_split}
 use Rattle.std.specs.Fmt.{decimal}
 use Rattle.hex.specs.Hex.{IsBytes, encode_lower}
 use Rattle.term_values.specs.Trees.{Tree}
@@ -75,7 +75,7 @@ prefix_word (b ∷ bs) = encode_lower (b ∷ bs)
 abbrev pub text_word : Slot × List ℕ → List ℕ
 text_word t = slot_name t.0 ++ (codes "=" ++ encode_lower t.1)
 
--- THE LINES. The words of each: one case a line
+-- the words of each line: one case a line
 abbrev pub line_words : WrittenLine → List (List ℕ)
 line_words silent = []
 line_words (time_party name window) = codes "party" ∷ decimal name ∷ codes "time" ∷ decimal window ∷ []
@@ -89,7 +89,7 @@ line_words (opening mech role a b texts) = codes "open" ∷ mech_name mech ∷ r
 line_words (give run term) = codes "give" ∷ decimal run ∷ notation term ∷ []
 line_words (drop run) = codes "drop" ∷ decimal run ∷ []
 
--- THE MECHANISMS that lines may name
+-- the mechanisms that lines may name
 abbrev pub is_offered : Mech → Bool
 is_offered E1 = true
 is_offered E2 = true

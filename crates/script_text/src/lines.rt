@@ -1,4 +1,5 @@
 ghost use Rattle.std.specs.Prelude.{◌≡◌, ◌^◌, ℕ, List, ◌∷◌, [], false, true, not, Err, IfOk, IfSome, IsNone, IsTrue, MatchResult, None, Some, is_some, map};
+ghost use Rattle.std.specs.List.{count_by};
 ghost use Rattle.std.specs.Option.{option_copied};
 ghost use Rattle.term_values.specs.Trees.{Tree};
 ghost use Rattle.mech_rows.specs.Facts.{same_role};
@@ -23,6 +24,9 @@ const SEQ_WINDOW: u32 = 5000;
 
 /// One more than the greatest window, in milliseconds.
 const WINDOW_END: u32 = 600_001;
+
+/// The most blanks of a line: those between the five words of `open` and nine texts.
+const BLANKS_MAX: usize = 13;
 
 /// One more than the most bytes of a text.
 const LENGTH_END: u32 = 1025;
@@ -296,9 +300,17 @@ fn is_silent(text: &[u8]) -> bool
     text.is_empty() || text[0] == b'#'
 }
 
-/// What a line of a script says, without the line feed at its end. Its words are separated by exactly one blank, which is a
-/// space or a tab; an empty line and one that begins with # say nothing, whatever bytes they hold. The lines are those of
-/// [`Line`], in mechanisms without a third party of the two families of unilateral and mutual authentication.
+/// How many blanks a text has.
+fn count_blanks(text: &[u8]) -> usize
+    ensures { result ≡ count_by is_blank text.now }
+{
+    text.iter().filter(|c| is_blank(**c)).count()
+}
+
+/// What a line of a script says; the text is the line without the line feed at its end. Its words are separated by exactly
+/// one blank, which is a space or a tab, and no blank stands at either end. An empty line says nothing, and neither does one
+/// that begins with #, whatever bytes it holds. Of the mechanisms E1 to E4 and C1 to C4 may be named. A text with more blanks
+/// than a line can have is refused before its words are kept.
 ///
 /// # Errors
 ///
@@ -312,6 +324,9 @@ pub fn read_line(alloc: Global, text: &[u8], sent: &[Term]) -> Result<Line, BadL
 {
     if is_silent(text) {
         return Ok(Line::Empty);
+    }
+    if count_blanks(text) > BLANKS_MAX {
+        return Err(BadLine::Grammar);
     }
     let words = split_words(alloc, text)?;
     match give_words(&words) {

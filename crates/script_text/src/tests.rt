@@ -3,7 +3,7 @@ use mech_rows::{Refusal, Slot};
 use std::alloc::Global;
 use std::process::Abort;
 use std::test::Fail;
-use term_values::{OutOfMemory, Stamp, Term, Why};
+use term_values::{OutOfMemory, Stamp, StampKind, Term, Why};
 
 /// Texts that print as they are read.
 const TERMS: [&str; 23] = [
@@ -182,7 +182,10 @@ fn sizes_are_bounded(rt: HostRuntime) -> Result<(), Fail> {
     let open = joined(alloc, "", "(", 1_048_576, "")?;
     expect_term(&rt, alloc, &open, &[], Err(BadLine::Grammar))?;
     let commas = joined(alloc, "(", "(),", 349_525, "())")?;
-    expect_term(&rt, alloc, &commas, &[], Err(BadLine::Grammar))
+    expect_term(&rt, alloc, &commas, &[], Err(BadLine::Grammar))?;
+    let blanks = joined(alloc, "give", " ", 1_048_576, "")?;
+    assert!(rt; read_line(alloc, &blanks, &[]).err() == Some(BadLine::Grammar));
+    Ok(())
 }
 
 /// Every refusal with its line.
@@ -393,6 +396,17 @@ fn lines_are_read(rt: HostRuntime) -> Result<(), Fail> {
         let reason = read_line(alloc, text.as_bytes(), &sent).err();
         assert!(rt; reason == Some(BadLine::Grammar));
     }
+    let party = read_line(alloc, b"party 7 seq", &sent)?;
+    assert!(rt;
+        matches!(
+            &party,
+            Line::Party {
+                kind: StampKind::Seq,
+                window: 5000,
+                ..
+            }
+        )
+    );
     assert!(rt; read_line(alloc, b"#\xff\x00", &sent).is_ok());
     assert!(rt; read_line(alloc, b"drop \xff", &sent).err() == Some(BadLine::Grammar));
     assert!(rt; read_line(alloc, b"give 1 @2", &sent).err() == Some(BadLine::Reference));

@@ -1,8 +1,8 @@
-use Rattle.std.proofs.Common.{rules, ◌≡◌, ℕ, List, Bor, Bool, false, map, refl, sym, ap, ◌∙◌}
-use Rattle.std.specs.Prelude.{None}
+use Rattle.std.proofs.Common.{arith, ◌≡◌, ℕ, List, Bor, false, map, refl, sym, ap, ◌∙◌}
 use Rattle.std.proofs.lemmas.Result.{err_from_is_err_and}
 use Rattle.script_text.specs.LineReading.{IsGiveWords, plain_words}
 use Rattle.script_text.specs.Lines.{is_silent, give, silent, words_of}
+use Rattle.script_text.proofs.FewWords.{few_blanks}
 use Rattle.script_text.proofs.LineTexts.{fails_plain, given_line, given_said, no_given, no_line, plain_said}
 use Rattle.script_text.proofs.Readings.{err_is}
 use Rattle.script_text.proofs.lines.read_line.Goals as goal
@@ -12,6 +12,11 @@ seen words = map (λ w. w.now) words
 
 pub returns-then-is_silent-clause-ok : goal.returns-then-is_silent-clause-ok
 returns-then-is_silent-clause-ok c = (silent, record { written = sym c.is_silent.ensures ∙ c.if-is_silent.true; values = tt }, refl, refl)
+
+pub returns-then-count_blanks-gt-BLANKS_MAX-clause-grammar : goal.returns-then-count_blanks-gt-BLANKS_MAX-clause-grammar
+returns-then-count_blanks-gt-BLANKS_MAX-clause-grammar c =
+    let loud : is_silent c.args.text.now ≡ false = sym c.is_silent.ensures ∙ c.if-is_silent.false in
+    λ _ w line. absurd (omega (arith, c.if-count_blanks-gt-BLANKS_MAX.true, c.count_blanks.ensures, few_blanks c.args.sent.now c.args.text.now w loud line))
 
 pub returns-in-Some-clause-ok : goal.returns-in-Some-clause-ok
 returns-in-Some-clause-ok c =
