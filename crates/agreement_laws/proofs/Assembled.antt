@@ -20,8 +20,9 @@ use Rattle.agreement_laws.specs.Replacement.{checks, replaced, replaced_notes, r
 use Rattle.agreement_laws.specs.Assembled.{listed, replaced_event, replaced_entries, IsAssembled, AllowsReplaced, IsNetworkWorld, Listed, SealsIdeally, OpensBlobs, is_blob, items_in, items_of, look_up, AreRings, node_with}
 use Rattle.replay_store.specs.Stamps.{Accepted, next_stamp, stamp_verdict}
 use Rattle.term_values.specs.declared.small.StampKind.{StampKind}
-use Rattle.agreement_laws.specs.Nodes.{Texts, text_for, is_text, sends_slot, opening_notes, opened_run, Event, Open, Issue, Commit, Drop, Restart, Log, Standing, Runs, Node, new_node, opens_in, if_open, open_among, MayOpen, WasIssued, WasUsed, put, ended, is_going, accepted_of, changed, node_after, now_of, IsLegal, knows, Needs, keys_in, NeedsCommit}
-use Rattle.mech_rows.specs.Rings.{Ring}
+use Rattle.agreement_laws.specs.Nodes.{Event, Open, Issue, Commit, Drop, Restart, Log, Standing, Runs, Node, new_node, opens_in, if_open, open_among, MayOpen, WasIssued, WasUsed, put, ended, is_going, accepted_of, changed, node_after, now_of, IsLegal, knows, Needs, NeedsCommit}
+use Rattle.mech_rows.specs.Openings.{Texts, text_for, is_text, sends_slot, opening_notes, opened_run}
+use Rattle.mech_rows.specs.Rings.{keys_in, Ring}
 use Rattle.mech_rows.proofs.RowUse.{nth_among, among_covers, no_fwd_inside}
 use Rattle.mech_rows.proofs.Items.{one_body}
 use Rattle.term_values.proofs.SameBytes.{same_start, same_bytes_refl}

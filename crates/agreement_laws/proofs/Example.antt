@@ -23,7 +23,9 @@ use Rattle.agreement_laws.specs.Traces.{Happening, Opens, OccursInConfig, Occurs
 use Rattle.term_values.specs.declared.small.StampKind.TheVariants.{Time as by_time}
 use Rattle.replay_store.specs.declared.verdict.Verdict.TheVariants.{Fit}
 use Rattle.replay_store.specs.Stamps.{stamp_verdict}
-use Rattle.agreement_laws.specs.Nodes.{opening_notes, opened_run, Event, Open, Issue, Commit, Restart, Node, MayOpen, NeedsOpen, NeedsCommit, WasIssued, WasUsed, keys_in, knows, serves, now_of, open_among, opens_in}
+use Rattle.agreement_laws.specs.Nodes.{Event, Open, Issue, Commit, Restart, Node, MayOpen, NeedsOpen, NeedsCommit, WasIssued, WasUsed, knows, serves, now_of, open_among, opens_in}
+use Rattle.mech_rows.specs.Openings.{opening_notes, opened_run}
+use Rattle.mech_rows.specs.Rings.{keys_in}
 use Rattle.agreement_laws.specs.Worlds.{Entry, At, Reveal, ring_of, node_of, run_id, trace, IsWorld}
 use Rattle.mech_rows.specs.Rounds.{stands}
 use Rattle.agreement_laws.specs.Examples.{ShowsClaim, ShowsSecret, ShowsLosses}
@@ -241,7 +243,7 @@ sends_is_step : IsStep symbolic (keys_in (ring_of config 1)) sends
 sends_is_step =
     record {
       same_head = refl;
-      acts = λ e f. absurd (cc);
+      acts = λ e. (refl, λ f. absurd (cc));
       takes = (refl, refl, refl);
       replies = record {
         pass = only_pass;
@@ -273,7 +275,7 @@ takes_is_step : IsStep symbolic (keys_in (ring_of config 2)) takes
 takes_is_step =
     record {
       same_head = refl;
-      acts = λ e f. absurd (cc);
+      acts = λ e. absurd (cc);
       takes = record {
         pass = only_pass;
         at = refl;

@@ -15,7 +15,8 @@ use Rattle.mech_rows.specs.declared.kinds.Clear.TheVariants.{Slot as Shown, Name
 use Rattle.mech_rows.specs.Rows.{Pass, Cover, pass_from, shown, S, unread, forwarded, tag_of}
 use Rattle.mech_rows.specs.Heads.{Head, name_of}
 use Rattle.mech_rows.specs.Runs.{IsForwardable, Keys, sent_slots, seen_slots, Step}
-use Rattle.agreement_laws.specs.Nodes.{Open, Issue, Commit, keys_in}
+use Rattle.agreement_laws.specs.Nodes.{Open, Issue, Commit}
+use Rattle.mech_rows.specs.Rings.{keys_in}
 use Rattle.agreement_laws.specs.Worlds.{Entry, At, ring_of, node_of, run_id, trace, IsWorld}
 use Rattle.agreement_laws.specs.Sound.{Completion, HasClaim, HasSecret}
 use Rattle.agreement_laws.specs.Examples.{ShowsClaim, ShowsSecret}

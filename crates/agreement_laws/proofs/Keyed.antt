@@ -13,8 +13,9 @@ use Rattle.mech_rows.specs.Heads.{Head, name_of}
 use Rattle.mech_rows.specs.Runs.{Notes, Keys, bytes_or_empty, key_under, body, made, seen, nth, Step, reply_pass}
 use Rattle.mech_rows.specs.Steps.{Sealer, ItemBy, ItemsAre, openings, Takes, Replies, IsStep}
 use Rattle.agreement_laws.specs.Configs.{Party, Config, keys_of, names_in, IsLawful}
-use Rattle.agreement_laws.specs.Nodes.{server_by, keys_in, knows, serves, uses, Open, Issue, Commit, Drop, Restart, Log, Standing, Runs, Node, opened_run, put, ended, is_going, node_after, IsLegal}
-use Rattle.mech_rows.specs.Rings.{Peer, Ring, part_by}
+use Rattle.agreement_laws.specs.Nodes.{server_by, knows, serves, Open, Issue, Commit, Drop, Restart, Log, Standing, Runs, Node, put, ended, is_going, node_after, IsLegal}
+use Rattle.mech_rows.specs.Openings.{uses, opened_run}
+use Rattle.mech_rows.specs.Rings.{keys_in, Peer, Ring, part_by}
 use Rattle.agreement_laws.specs.Worlds.{party_by, peers_by, ring_of}
 use Rattle.agreement_laws.specs.Assembled.{IsRingOf}
 use Rattle.term_values.proofs.Lists.{some_among, or_cases}

@@ -10,7 +10,7 @@ use Rattle.mech_rows.specs.Runs.{Notes, Keys, key_under, body, made, nth, Openin
 use Rattle.mech_rows.specs.Steps.{symbolic, symbolic_item, ItemBy, ItemsAre, openings, Replies, IsStep}
 use Rattle.agreement_laws.specs.Configs.{Config, keys_of, IsLawful}
 use Rattle.agreement_laws.specs.Traces.{Seals, RunId, Steps}
-use Rattle.agreement_laws.specs.Nodes.{keys_in}
+use Rattle.mech_rows.specs.Rings.{keys_in}
 use Rattle.agreement_laws.specs.Worlds.{Entry, ring_of, trace, IsWorld}
 use Rattle.agreement_laws.proofs.Rings.{same_key, party_from}
 use Rattle.agreement_laws.proofs.Reduction.{StandsAt, stands}

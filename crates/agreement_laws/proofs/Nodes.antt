@@ -8,7 +8,8 @@ use Rattle.mech_rows.specs.Steps.{Sealer}
 use Rattle.term_values.specs.declared.small.StampKind.{StampKind}
 use Rattle.term_values.specs.declared.small.StampKind.TheVariants.{Time as by_time, Seq as by_number}
 use Rattle.replay_store.specs.Stamps.{Accepted, stamp_of_kind, next_stamp, last_number, number_of}
-use Rattle.agreement_laws.specs.Nodes.{Event, Open, Issue, Commit, Drop, Restart, Log, Standing, Runs, Node, opened_run, put, ended, accepted_of, changed, Needs, NeedsCommit, node_after, IsLegal, AcceptsOnce, IsIssue, Judged, StampsRise, Used, UsesOnce, NowsRise, now_of}
+use Rattle.agreement_laws.specs.Nodes.{Event, Open, Issue, Commit, Drop, Restart, Log, Standing, Runs, Node, put, ended, accepted_of, changed, Needs, NeedsCommit, node_after, IsLegal, AcceptsOnce, IsIssue, Judged, StampsRise, Used, UsesOnce, NowsRise, now_of}
+use Rattle.mech_rows.specs.Openings.{opened_run}
 use Rattle.mech_rows.specs.Rings.{Ring}
 use Rattle.term_values.proofs.Lists.{map_among, among_left, among_right}
 use Rattle.replay_store.proofs.Stamps.{fit_is_new}

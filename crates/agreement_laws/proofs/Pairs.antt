@@ -15,9 +15,10 @@ use Rattle.mech_rows.specs.Facts.{same_role, maker, in_one_row, in_one_item, is_
 use Rattle.mech_rows.specs.Heads.{Head, name_of}
 use Rattle.mech_rows.specs.Runs.{Run, nth, IsDone, key_under, bytes_or_empty}
 use Rattle.mech_rows.specs.Steps.{symbolic}
-use Rattle.mech_rows.specs.Rings.{Ring, part_by}
+use Rattle.mech_rows.specs.Rings.{Ring, part_by, keys_in}
 use Rattle.agreement_laws.specs.Configs.{LongTerm, Config, IsLawful, keys_of, part_among, is_of, IsGoodLong, IsGoodHead, IsUnrevealed}
-use Rattle.agreement_laws.specs.Nodes.{keys_in, new_node, uses, Standing}
+use Rattle.agreement_laws.specs.Nodes.{new_node, Standing}
+use Rattle.mech_rows.specs.Openings.{uses}
 use Rattle.agreement_laws.specs.Traces.{RunId, current, IsGoodPart}
 use Rattle.agreement_laws.specs.Worlds.{Entry, IsWorld, ring_of, log_of, node_of, trace}
 use Rattle.agreement_laws.specs.Sound.{Completion}

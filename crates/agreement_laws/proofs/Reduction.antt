@@ -11,8 +11,9 @@ use Rattle.mech_rows.specs.Runs.{Run, Got, Step, HasKind}
 use Rattle.mech_rows.specs.Steps.{symbolic, IsStep}
 use Rattle.agreement_laws.specs.Configs.{Config, IsLawful}
 use Rattle.agreement_laws.specs.Traces.{RunId, current, Happening, Steps}
-use Rattle.agreement_laws.specs.Nodes.{accepted_of, is_text, opens_in, keys_in, Texts, opened_run, Event, Open, Issue, Commit, Drop, Restart, Log, Standing, Node, new_node, put, ended, Needs, node_after, IsLegal, is_going, NeedsCommit, sends_slot, text_for}
-use Rattle.mech_rows.specs.Rings.{Ring}
+use Rattle.agreement_laws.specs.Nodes.{accepted_of, opens_in, Event, Open, Issue, Commit, Drop, Restart, Log, Standing, Node, new_node, put, ended, Needs, node_after, IsLegal, is_going, NeedsCommit}
+use Rattle.mech_rows.specs.Openings.{is_text, Texts, opened_run, sends_slot, text_for}
+use Rattle.mech_rows.specs.Rings.{keys_in, Ring}
 use Rattle.agreement_laws.specs.Worlds.{Entry, At, Reveal, ring_of, log_of, node_of, run_id, trace, IsWorld}
 use Rattle.agreement_laws.proofs.Traces.{AcceptsNew, IsOpening, IsTrace, IssuesNew}
 use Rattle.term_values.proofs.Lists.{and_left}

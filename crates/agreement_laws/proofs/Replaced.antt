@@ -193,7 +193,7 @@ unfolding of_message
 of_step opens f keys step ideal is =
     record {
       same_head = is.same_head;
-      acts = λ e g. is.acts (none_back step.taken e) (none_back step.reply g);
+      acts = λ e. let a = is.acts (none_back step.taken e) in (a.0, λ g. a.1 (none_back step.reply g));
       takes = takes step.taken is.takes;
       replies = replies step.taken step.reply is.replies;
       moves = moves step.taken step.reply is.moves;

@@ -15,8 +15,7 @@ use Rattle.mech_rows.specs.Heads.{Head, name_of, me}
 use Rattle.mech_rows.specs.Runs.{Notes, value, bytes_or_empty, key_under, body, protected, clear_item, made, seen, nth, Step, reply_pass}
 use Rattle.mech_rows.specs.Steps.{symbolic, ItemBy, ItemsAre, IsMessage, Takes, Replies, IsStep}
 use Rattle.agreement_laws.specs.Configs.{Party, LongTerm, Config, is_of, part_among, keys_of, names_in, IsLawful}
-use Rattle.agreement_laws.specs.Nodes.{keys_in}
-use Rattle.mech_rows.specs.Rings.{part_by}
+use Rattle.mech_rows.specs.Rings.{keys_in, part_by}
 use Rattle.agreement_laws.specs.Worlds.{peers_by, ring_of}
 use Rattle.mech_rows.proofs.Facts.{pairs_are_of_parties_holds}
 use Rattle.mech_rows.specs.Says.{item_as, message}
@@ -143,7 +142,7 @@ module _ (c : Config) (lawful : IsLawful c) (n : ℕ) (h : Head) (own : me h ≡
 -- a step with the party's ring is a step with the configuration's keys
 pub ring_step : (c : Config) → IsLawful c → (n : ℕ) (step : Step) → me step.before.head ≡ n → IsStep symbolic (keys_in (ring_of c n)) step → IsSymbolicStep (keys_of c) step
 ring_step c lawful n step own is =
-    record { same_head = is.same_head; acts = is.acts; takes = takes step.taken is.takes; replies = replies step.reply is.replies; moves = is.moves }
+    record { same_head = is.same_head; acts = λ e. (is.acts e).1; takes = takes step.taken is.takes; replies = replies step.reply is.replies; moves = is.moves }
   where
     takes : (o : Option Tree) → Takes symbolic (keys_in (ring_of c n)) step.before o step.middle step.opened step.got → SymbolicTakes (keys_of c) step.before o step.middle
     takes None t = t.0

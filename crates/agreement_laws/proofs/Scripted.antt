@@ -13,7 +13,7 @@ use Rattle.mech_rows.specs.Heads.{Head}
 use Rattle.mech_rows.specs.Runs.{Notes, Run, Keys, made, seen, nth, sent_slots, seen_slots, HasKind, Extends, Step, Draws, next_act, outcome_of}
 use Rattle.mech_rows.specs.Says.{item_as, message}
 use Rattle.mech_rows.specs.Steps.{symbolic, stamp_in, openings, got_of, IsStep}
-use Rattle.agreement_laws.specs.Nodes.{opening_notes, is_text, sends_slot}
+use Rattle.mech_rows.specs.Openings.{opening_notes, is_text, sends_slot}
 use Rattle.term_values.proofs.Lists.{all_among, implied, and_left, and_right, among_append, among_left, among_right}
 use Rattle.mech_rows.proofs.RowUse.{same_slot_is}
 use Rattle.mech_rows.proofs.Unique.{items_said}
@@ -230,7 +230,7 @@ module _ (vals : Slot → Tree) where
     begins_is_step keys h q at from one =
         record {
           same_head = refl;
-          acts = λ e f. absurd (cc);
+          acts = λ e. (refl, λ f. absurd (cc));
           takes = (refl, refl, refl);
           replies = record {
             pass = q;
@@ -249,7 +249,7 @@ module _ (vals : Slot → Tree) where
     answers_is_step keys h k old p q at to next from one =
         record {
           same_head = refl;
-          acts = λ e f. absurd (cc);
+          acts = λ e. absurd (cc);
           takes = record {
             pass = p;
             at = at;
@@ -276,7 +276,7 @@ module _ (vals : Slot → Tree) where
     ends_is_step keys h k old p at to last =
         record {
           same_head = refl;
-          acts = λ e f. absurd (cc);
+          acts = λ e. absurd (cc);
           takes = record {
             pass = p;
             at = at;

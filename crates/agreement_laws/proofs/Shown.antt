@@ -11,7 +11,7 @@ use Rattle.mech_rows.specs.Rows.{kind_of, pairs_of}
 use Rattle.mech_rows.specs.Heads.{Head, name_of}
 use Rattle.mech_rows.specs.Runs.{HasKind, IsForwardable}
 use Rattle.agreement_laws.specs.Configs.{keys_of, IsGoodLong, IsGoodHead}
-use Rattle.agreement_laws.specs.Nodes.{is_text}
+use Rattle.mech_rows.specs.Openings.{is_text}
 use Rattle.agreement_laws.proofs.Example.{config, pair}
 
 -- one value for each slot; what is forwarded is given

@@ -13,7 +13,9 @@ use Rattle.mech_rows.specs.Steps.{symbolic, IsStep}
 use Rattle.replay_store.specs.declared.verdict.Verdict.{Verdict}
 use Rattle.replay_store.specs.declared.verdict.Verdict.TheVariants.{Fit}
 use Rattle.replay_store.specs.Stamps.{stamp_verdict}
-use Rattle.agreement_laws.specs.Nodes.{Event, Open, Issue, Commit, Drop, Restart, Log, Node, keys_in, knows, serves, uses, open_among, opens_in, MayOpen, NeedsCommit, WasIssued, WasUsed}
+use Rattle.agreement_laws.specs.Nodes.{Event, Open, Issue, Commit, Drop, Restart, Log, Node, knows, serves, open_among, opens_in, MayOpen, NeedsCommit, WasIssued, WasUsed}
+use Rattle.mech_rows.specs.Openings.{uses}
+use Rattle.mech_rows.specs.Rings.{keys_in}
 use Rattle.term_values.proofs.Lists.{all_among, some_among, any_among, implied, and_left, and_right, not_true}
 
 some_is : {X : Type 0} (o : Option X) → is_some o ≡ true → (x : X) × (o ≡ Some x)

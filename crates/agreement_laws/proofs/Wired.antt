@@ -19,8 +19,8 @@ use Rattle.term_values.specs.declared.small.StampKind.TheVariants.{Time as by_ti
 use Rattle.replay_store.specs.declared.verdict.Verdict.TheVariants.{Fit}
 use Rattle.replay_store.specs.Stamps.{stamp_verdict}
 use Rattle.agreement_laws.specs.Replacement.{replaced, replaced_notes, replaced_step}
-use Rattle.agreement_laws.specs.Nodes.{Open, Issue, Commit, NeedsCommit, WasIssued, WasUsed, keys_in}
-use Rattle.mech_rows.specs.Rings.{Peer}
+use Rattle.agreement_laws.specs.Nodes.{Open, Issue, Commit, NeedsCommit, WasIssued, WasUsed}
+use Rattle.mech_rows.specs.Rings.{keys_in, Peer}
 use Rattle.agreement_laws.specs.Worlds.{Entry, At, party_by, ring_of, node_of, trace}
 use Rattle.mech_rows.specs.Rounds.{stands}
 use Rattle.agreement_laws.specs.Assembled.{OpensBlobs, IsRingOf, AreRings, IsAssembled, Listed, SealsIdeally, IsNetworkWorld, items_in, look_up}
@@ -66,7 +66,7 @@ wired_sends_is_step : IsStep toy (keys_in (ring_of config 1)) wired_sends
 wired_sends_is_step =
     record {
       same_head = refl;
-      acts = λ e f. absurd (cc);
+      acts = λ e. (refl, λ f. absurd (cc));
       takes = (refl, refl, refl);
       replies = record {
         pass = only_pass;
@@ -91,7 +91,7 @@ wired_takes_is_step : IsStep toy (keys_in (ring_of config 2)) wired_takes
 wired_takes_is_step =
     record {
       same_head = refl;
-      acts = λ e f. absurd (cc);
+      acts = λ e. absurd (cc);
       takes = record {
         pass = only_pass;
         at = refl;

@@ -1,22 +1,19 @@
 -- One node: its ring, issuer, store, runs and log, and how its events change it.
 use Rattle.std.specs.Prelude.{◌≡◌, ◌≢◌, ◌<◌, ◌≤◌, ℕ, zero, suc, ◌+◌, Bool, true, false, List, [], ◌∷◌, ◌++◌, map, Option, Some, None, is_some, ◌==◌, ◌&&◌, ◌||◌, if◌then◌else◌}
 use Rattle.std.specs.List.{list_any}
-use Rattle.term_values.specs.Trees.{Among, Bytes, text}
+use Rattle.term_values.specs.Trees.{Among, Bytes}
 use Rattle.term_values.specs.declared.small.Stamp.{Stamp}
 use Rattle.mech_rows.specs.declared.kinds.Role.{Role}
 use Rattle.mech_rows.specs.declared.kinds.Role.TheVariants.{P}
-use Rattle.mech_rows.specs.declared.kinds.Slot.{Slot}
-use Rattle.mech_rows.specs.declared.kinds.Kind.{Kind}
-use Rattle.mech_rows.specs.declared.kinds.Kind.TheVariants.{Text as a_text}
-use Rattle.mech_rows.specs.Rows.{kind_of, Pass, row_of, has_third, pairs_of}
-use Rattle.mech_rows.specs.Facts.{same_role, same_slot}
+use Rattle.mech_rows.specs.Rows.{has_third, pairs_of}
 use Rattle.mech_rows.specs.Heads.{Head, name_of, me, IsHead}
-use Rattle.mech_rows.specs.Runs.{Notes, Run, Keys, sent_slots, next_act, Got, Step}
+use Rattle.mech_rows.specs.Runs.{Run, Got, Step}
 use Rattle.mech_rows.specs.declared.outcome.Outcome.{Outcome}
 use Rattle.mech_rows.specs.declared.outcome.Outcome.TheVariants.{Going, Done}
 use Rattle.mech_rows.specs.Steps.{Sealer, IsStep}
 use Rattle.term_values.specs.declared.small.StampKind.{StampKind}
-use Rattle.mech_rows.specs.Rings.{Peer, Ring, part_by}
+use Rattle.mech_rows.specs.Rings.{Peer, Ring, keys_in}
+use Rattle.mech_rows.specs.Openings.{Texts, opened_run, uses}
 use Rattle.replay_store.specs.Stamps.{Accepted, stamp_verdict, next_stamp, number_of}
 use Rattle.replay_store.specs.declared.verdict.Verdict.TheVariants.{Fit}
 
@@ -25,10 +22,6 @@ abbrev pub server_by : List Peer → ℕ → Bool
 server_by [] n = false
 server_by (p ∷ ps) n = if p.name == n then p.is_server else server_by ps n
 
--- the long-term keys that a ring has are those of its own pairs
-abbrev pub keys_in : Ring → Keys
-keys_in ring x y = if x == ring.me then part_by ring.peers y else if y == ring.me then part_by ring.peers x else None
-
 -- a ring knows the node's own name and those of its peers
 abbrev pub knows : Ring → ℕ → Bool
 knows ring n = (n == ring.me) || list_any (λ (p : Peer). p.name == n) ring.peers
@@ -36,32 +29,6 @@ knows ring n = (n == ring.me) || list_any (λ (p : Peer). p.name == n) ring.peer
 -- the name is that of a third party: for the own name the ring says so, for another one the first peer of that name
 abbrev pub serves : Ring → ℕ → Bool
 serves ring n = if n == ring.me then ring.is_server else server_by ring.peers n
-
--- texts that were given for slots
-abbrev pub Texts : Type 0
-Texts = List (Slot × Bytes)
-
--- the text that was given for the slot, and else the empty text
-abbrev pub text_for : Texts → Slot → Bytes
-text_for [] s = []
-text_for (t ∷ ts) s = if same_slot t.0 s then t.1 else text_for ts s
-
--- the kind is text
-abbrev pub is_text : Kind → Bool
-is_text a_text = true
-is_text _ = false
-
--- the role sends the slot, other than inside a forwarded item
-abbrev pub sends_slot : Role → Slot → List Pass → Bool
-sends_slot r s ps = list_any (λ p. same_role p.from r && list_any (same_slot s) (sent_slots p)) ps
-
--- a run's own texts are noted from its opening, the empty text where none was given
-abbrev pub opening_notes : Head → Texts → Notes
-opening_notes h texts s = if is_text (kind_of s) && sends_slot h.role s (row_of h.mech) then Some (text (text_for texts s)) else None
-
--- the run as it is opened: at the first pass in which its role acts, with its texts noted
-abbrev pub opened_run : Head → Texts → Run
-opened_run h texts = record { head = h; next = next_act h 0; notes = opening_notes h texts }
 
 -- what happens at a node: a run is opened, a stamp is issued, a step is committed, a run is dropped, or the node restarts
 pub data Event : Type 0 where
@@ -120,10 +87,6 @@ if_open (Some s) = if s.is_open then 1 else 0
 abbrev pub open_among : Runs → ℕ → ℕ
 open_among runs zero = 0
 open_among runs (suc n) = if_open (runs (suc n)) + open_among runs n
-
--- the role is one of the two
-abbrev pub uses : Role → Role × Role → Bool
-uses r q = same_role r q.0 || same_role r q.1
 
 -- none of the refusals of an opening: unknown name, wrong kind, own peer, no key, full table
 pub record MayOpen (node : Node) (h : Head) : Type 0 where

@@ -7,7 +7,8 @@ use Rattle.mech_rows.specs.Steps.{symbolic}
 use Rattle.agreement_laws.specs.Configs.{Party, Config, keys_of, names_in, IsLawful}
 use Rattle.agreement_laws.specs.Traces.{RunId, Happening, Opens, Steps, Reveals, current, Delivered, IsFresh}
 use Rattle.term_values.specs.declared.small.StampKind.TheVariants.{Time as by_time}
-use Rattle.agreement_laws.specs.Nodes.{Event, Open, Issue, Commit, Drop, Restart, Log, Node, new_node, opened_run, node_after, Needs, IsLegal}
+use Rattle.agreement_laws.specs.Nodes.{Event, Open, Issue, Commit, Drop, Restart, Log, Node, new_node, node_after, Needs, IsLegal}
+use Rattle.mech_rows.specs.Openings.{opened_run}
 use Rattle.mech_rows.specs.Rings.{Peer, Ring}
 
 -- an entry of a world: an event of a party, or the session key of a run is given to the attacker

@@ -1,4 +1,4 @@
-use Rattle.std.proofs.Common.{◌≡◌, List, [], ◌∷◌, Option, refl, slice_get}
+use Rattle.std.proofs.Common.{◌≡◌, List, [], ◌∷◌, refl, slice_get}
 use Rattle.mech_rows.specs.Table.{fill}
 
 pub fill_two : {X : Type 0} (xs : List X) → fill 2 xs ≡ slice_get xs 0 ∷ slice_get xs 1 ∷ []

@@ -1,8 +1,7 @@
 use Rattle.std.proofs.Common.{◌≡◌, Option, Some, None, option_map, refl}
-use Rattle.std.specs.Prelude.{List}
 use Rattle.term_values.specs.declared.small.Key.{Key}
 use Rattle.term_values.specs.declared.small.Key.TheVariants.{One, Two}
-use Rattle.term_values.specs.Trees.{Bytes, Tree, name, stamp, nonce, part, text, tag, blob, tuple, seal, check}
+use Rattle.term_values.specs.Trees.{Bytes, Tree, part}
 use Rattle.mech_rows.specs.Notes.{part_noted}
 use Rattle.mech_rows.specs.Runs.{one_key, two_keys}
 

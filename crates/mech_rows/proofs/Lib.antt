@@ -12,3 +12,5 @@ pub mod Parts
 pub mod VerdictFits
 pub mod Taking
 pub mod Welcomed
+pub mod Sending
+pub mod Stepping

@@ -1,5 +1,5 @@
 -- What the protected items of a message leave, part by part.
-use Rattle.std.proofs.Common.{◌≡◌, ◌==◌, ◌+◌, ◌≤◌, ◌<◌, ℕ, zero, suc, Bool, true, false, ◌&&◌, ◌⊎◌, inl, inr, List, [], ◌∷◌, ◌++◌, map, length, get_or, drop, Option, Some, None, Result, Ok, Err, if◌then◌else◌, is_none, refl, sym, ap, ap₂, subst, ◌∙◌, arith, rules, eqb-true}
+use Rattle.std.proofs.Common.{◌≡◌, ◌==◌, ◌+◌, ◌≤◌, ℕ, suc, Bool, true, false, ◌&&◌, ◌⊎◌, inl, inr, List, [], ◌∷◌, ◌++◌, map, length, Option, Some, None, Result, Ok, Err, if◌then◌else◌, is_none, refl, sym, ap, ap₂, subst, ◌∙◌, arith, eqb-true}
 use Rattle.std.specs.List.{list_all}
 use Rattle.std.proofs.Math.Seq.{drop-cons}
 use Rattle.std.proofs.lemmas.Bool.{leb-true}
@@ -13,11 +13,10 @@ use Rattle.mech_rows.specs.declared.kinds.Slot.{Slot}
 use Rattle.mech_rows.specs.declared.kinds.Slot.TheVariants.{Fa, Fwd}
 use Rattle.mech_rows.specs.declared.kinds.Under.{Under}
 use Rattle.mech_rows.specs.declared.kinds.Under.TheVariants.{Pair, Drawn}
-use Rattle.mech_rows.specs.declared.kinds.Mech.{Mech}
 use Rattle.mech_rows.specs.declared.kinds.Kind.TheVariants.{Item as an_item}
 use Rattle.mech_rows.specs.declared.kinds.Role.TheVariants.{P}
 use Rattle.mech_rows.specs.declared.refusal.Refusal.{Refusal}
-use Rattle.mech_rows.specs.declared.refusal.Refusal.TheVariants.{WrongShape, WrongNames, Unopened}
+use Rattle.mech_rows.specs.declared.refusal.Refusal.TheVariants.{WrongShape, WrongNames}
 use Rattle.mech_rows.specs.Rows.{kind_of, is_stamp, issuer, has_third, Cover}
 use Rattle.mech_rows.specs.Heads.{Head, name_of}
 use Rattle.mech_rows.specs.Facts.{same_slot}

@@ -1,11 +1,11 @@
 -- What the steps of the verdict leave, item by item.
-use Rattle.std.proofs.Common.{◌≡◌, ◌==◌, ◌+◌, ◌≤◌, ◌<◌, ℕ, zero, suc, Bool, true, false, ◌&&◌, ◌⊎◌, inl, inr, List, [], ◌∷◌, ◌++◌, map, length, get_or, drop, nat_le, Option, Some, None, Result, Ok, Err, if◌then◌else◌, refl, sym, ap, ap₂, subst, ◌∙◌, arith, rules}
+use Rattle.std.proofs.Common.{◌≡◌, ◌+◌, ℕ, suc, Bool, true, false, ◌⊎◌, inl, inr, List, [], ◌∷◌, ◌++◌, map, length, drop, Option, Some, None, Result, Ok, Err, if◌then◌else◌, refl, sym, ap, ap₂, subst, ◌∙◌, arith}
 use Rattle.std.proofs.Math.Seq.{drop-cons}
 use Rattle.std.proofs.lemmas.Bool.{leb-true}
 use Rattle.std.proofs.lemmas.List.{drop_all}
-use Rattle.term_values.specs.Trees.{Among, Bytes, Tree, name, stamp, nonce, part, text, tag, blob, tuple, seal, check, none, Trees, item, trees, untrees}
+use Rattle.term_values.specs.Trees.{Among, Tree, name, stamp, nonce, part, text, tag, tuple, none, trees}
 use Rattle.term_values.specs.Lengths.{length_of}
-use Rattle.term_values.proofs.Lists.{among_append, among_left, among_right, and_left, and_right, and_both}
+use Rattle.term_values.proofs.Lists.{among_append, among_left, among_right, and_left, and_right}
 use Rattle.term_values.proofs.Trees.{trees_untrees}
 use Rattle.mech_rows.specs.declared.kinds.Slot.{Slot}
 use Rattle.mech_rows.specs.declared.kinds.Clear.{Clear}
@@ -19,7 +19,7 @@ use Rattle.mech_rows.specs.Heads.{Head}
 use Rattle.mech_rows.specs.Facts.{same_slot}
 use Rattle.mech_rows.specs.Found.{found}
 use Rattle.mech_rows.specs.Same.{same}
-use Rattle.mech_rows.proofs.SameTrees.{same_is, same_refl}
+use Rattle.mech_rows.proofs.SameTrees.{same_is}
 use Rattle.mech_rows.proofs.RowUse.{same_slot_is, same_slot_refl}
 use Rattle.mech_rows.specs.Runs.{Notes, HasKind, Extends, value, noted_or_empty, clear_item, clear_slots}
 use Rattle.mech_rows.specs.Verdict.{Noted, items_of, bind, at, has_kind, is_name, are_kinds, are_clear, clear_names, note_slot, note_slots, note_clear}

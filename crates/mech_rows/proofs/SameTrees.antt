@@ -1,5 +1,5 @@
 -- The test decides equality.
-use Rattle.std.proofs.Common.{◌≡◌, ℕ, Bool, true, false, ◌==◌, ◌&&◌, ◌↔◌, IsTrue, refl, sym, ap, subst, ◌∙◌, arith, rules, eqb-true, eq-eqb}
+use Rattle.std.proofs.Common.{◌≡◌, Bool, true, false, ◌&&◌, ◌↔◌, IsTrue, refl, sym, ap, subst, eqb-true, eq-eqb}
 use base.Stored.{Gv, gnil, gnum, gcons}
 use Rattle.term_values.specs.Trees.{Tree}
 use Rattle.term_values.specs.Codes.{tree_code, tree_inj}

@@ -1,10 +1,9 @@
 -- Steps over symbolic sealing, with messages as values: the form in which the laws of worlds are proved.
-use Rattle.std.proofs.Common.{◌≡◌, ◌≢◌, ℕ, suc, Bool, ◌∷◌, ◌++◌, map, if◌then◌else◌, Option, Some, None}
-use Rattle.term_values.specs.Trees.{tag, tuple, trees, Tree}
-use Rattle.mech_rows.specs.declared.kinds.Slot.TheVariants.{Fwd}
-use Rattle.mech_rows.specs.Rows.{tag_of, Cover, Pass, row_of}
+use Rattle.std.proofs.Common.{◌≡◌, ◌≢◌, ℕ, Option, Some, None}
+use Rattle.term_values.specs.Trees.{Tree}
+use Rattle.mech_rows.specs.Rows.{Pass, row_of}
 use Rattle.mech_rows.specs.Says.{message}
-use Rattle.mech_rows.specs.Runs.{value, clear_item, protected, Notes, Run, Keys, made, seen, nth, sent_slots, seen_slots, Extends, Step, reply_pass, passed, next_act}
+use Rattle.mech_rows.specs.Runs.{Notes, Run, Keys, made, seen, nth, sent_slots, seen_slots, Extends, Step, reply_pass, passed, next_act}
 use Rattle.mech_rows.specs.Heads.{Head}
 
 -- the message fits the run, and leaves these notes

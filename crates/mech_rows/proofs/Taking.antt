@@ -1,34 +1,28 @@
 -- A message that the run welcomes is taken.
-use Rattle.std.proofs.Common.{◌≡◌, ◌==◌, ◌+◌, ◌≤◌, ℕ, zero, suc, Bool, true, false, not, ◌&&◌, ◌⊎◌, inl, inr, List, [], ◌∷◌, ◌++◌, map, length, get_or, Option, Some, None, Result, Ok, Err, if◌then◌else◌, refl, sym, ap, ap₂, subst, ◌∙◌, arith, rules, eq-eqb}
+use Rattle.std.proofs.Common.{◌≡◌, ℕ, suc, Bool, true, false, ◌&&◌, ◌⊎◌, inl, inr, List, [], ◌∷◌, ◌++◌, map, length, Option, Some, None, Result, Ok, Err, if◌then◌else◌, refl, sym, ap, ap₂, subst, ◌∙◌, arith}
 use Rattle.std.specs.List.{list_all}
-use Rattle.std.proofs.lemmas.Bool.{le-leb}
-use Rattle.std.proofs.lemmas.List.{append_assoc, append-nil, length-append, length-map}
-use Rattle.term_values.specs.Trees.{Among, Bytes, Tree, name, stamp, nonce, part, text, tag, tuple, none, trees, untrees}
-use Rattle.term_values.specs.Lengths.{length_of}
-use Rattle.term_values.specs.declared.small.Key.{Key}
-use Rattle.term_values.proofs.Lists.{among_append, among_left, among_right, all_among, and_left, and_right, and_both}
-use Rattle.term_values.proofs.Trees.{untrees_trees}
+use Rattle.std.proofs.lemmas.List.{append_assoc, length-append}
+use Rattle.term_values.specs.Trees.{Tree, name}
+use Rattle.term_values.proofs.Lists.{all_among, and_left, and_right, and_both}
 use Rattle.mech_rows.specs.declared.kinds.Mech.{Mech}
 use Rattle.mech_rows.specs.declared.kinds.Mech.TheVariants.{E1, E2, E3, E4, E5, E6, C1, C2, C3, C4, K3, K4, K5, K6, K8, K9}
 use Rattle.mech_rows.specs.declared.kinds.Slot.{Slot}
-use Rattle.mech_rows.specs.declared.kinds.Slot.TheVariants.{Fwd}
 use Rattle.mech_rows.specs.declared.kinds.Clear.{Clear}
 use Rattle.mech_rows.specs.declared.kinds.Clear.TheVariants.{Slot as Shown, NameOfB}
-use Rattle.mech_rows.specs.declared.kinds.Under.{Under}
 use Rattle.mech_rows.specs.declared.kinds.Kind.{Kind}
 use Rattle.mech_rows.specs.declared.kinds.Kind.TheVariants.{Nonce as a_nonce, Stamp as a_stamp, Part as a_part, Text as a_text, Item as an_item}
 use Rattle.mech_rows.specs.declared.refusal.Refusal.{Refusal}
-use Rattle.mech_rows.specs.declared.refusal.Refusal.TheVariants.{WrongPass, WrongShape, WrongNames, WrongValue}
+use Rattle.mech_rows.specs.declared.refusal.Refusal.TheVariants.{WrongValue}
 use Rattle.mech_rows.specs.Rows.{kind_of, Cover, Pass, row_of}
 use Rattle.mech_rows.specs.Heads.{Head}
 use Rattle.mech_rows.specs.Found.{found}
 use Rattle.mech_rows.specs.Same.{same}
 use Rattle.mech_rows.proofs.SameTrees.{same_refl}
 use Rattle.mech_rows.proofs.RowUse.{nth_among}
-use Rattle.mech_rows.specs.Runs.{Notes, Keys, HasKind, nth, value, noted_or_empty, clear_item, clear_slots}
-use Rattle.mech_rows.specs.Verdict.{Noted, bind, items_of, at, has_kind, is_name, are_kinds, are_clear, clear_names, note_slot, note_slots, note_clear}
+use Rattle.mech_rows.specs.Runs.{Notes, HasKind, nth, value, clear_item, clear_slots}
+use Rattle.mech_rows.specs.Verdict.{Noted, bind, at, has_kind, is_name, are_kinds, are_clear, clear_names, note_slot, note_slots, note_clear}
 use Rattle.mech_rows.specs.Lawful.{AreNoted}
-use Rattle.mech_rows.proofs.Reading.{Grows, found_old, found_new, found_only, picked, value_is}
+use Rattle.mech_rows.proofs.Reading.{Grows, found_only, picked, value_is}
 
 some_is : {X : Type 0} (x y : X) → Some x ≡ Some y → x ≡ y
 some_is x y e = cc

@@ -1,31 +1,25 @@
 -- A message that the verdict takes fits the run.
-use Rattle.std.proofs.Common.{◌≡◌, ◌==◌, ◌+◌, ◌≤◌, ℕ, zero, suc, Bool, true, false, ◌&&◌, ◌⊎◌, inl, inr, List, [], ◌∷◌, ◌++◌, map, length, Option, Some, None, Result, Ok, Err, if◌then◌else◌, refl, sym, ap, ap₂, subst, ◌∙◌, arith, rules, eqb-true}
-use Rattle.std.specs.List.{list_all}
+use Rattle.std.proofs.Common.{◌≡◌, ◌==◌, ◌+◌, ℕ, zero, suc, Bool, true, false, ◌&&◌, inl, inr, List, [], ◌∷◌, ◌++◌, length, Option, Some, None, Result, Ok, Err, if◌then◌else◌, refl, sym, ap, ap₂, subst, ◌∙◌, arith, eqb-true}
 use Rattle.std.proofs.Math.Seq.{drop-cons}
-use Rattle.std.proofs.lemmas.Bool.{leb-true}
-use Rattle.term_values.specs.Trees.{Among, Bytes, Tree, tag, tuple, none, trees}
-use Rattle.term_values.specs.Lengths.{length_of}
+use Rattle.term_values.specs.Trees.{Bytes, Tree, tag, tuple, none, trees}
 use Rattle.term_values.specs.declared.small.Key.{Key}
 use Rattle.term_values.proofs.Lists.{and_left, and_right}
 use Rattle.mech_rows.specs.declared.kinds.Mech.{Mech}
 use Rattle.mech_rows.specs.declared.kinds.Mech.TheVariants.{E1, E2, E3, E4, E5, E6, C1, C2, C3, C4, K3, K4, K5, K6, K8, K9}
 use Rattle.mech_rows.specs.declared.kinds.Slot.{Slot}
-use Rattle.mech_rows.specs.declared.kinds.Slot.TheVariants.{Fwd}
 use Rattle.mech_rows.specs.declared.kinds.Clear.{Clear}
 use Rattle.mech_rows.specs.declared.kinds.Kind.{Kind}
 use Rattle.mech_rows.specs.declared.kinds.Kind.TheVariants.{Nonce as a_nonce, Stamp as a_stamp, Part as a_part, Text as a_text, Item as an_item}
 use Rattle.mech_rows.specs.declared.refusal.Refusal.{Refusal}
-use Rattle.mech_rows.specs.declared.refusal.Refusal.TheVariants.{WrongPass, WrongShape, WrongNames, TextRefused}
+use Rattle.mech_rows.specs.declared.refusal.Refusal.TheVariants.{WrongPass, WrongShape, WrongNames}
 use Rattle.mech_rows.specs.Rows.{kind_of, tag_of, Cover, Pass, row_of}
-use Rattle.mech_rows.specs.Heads.{Head}
 use Rattle.mech_rows.specs.Found.{found}
 use Rattle.mech_rows.specs.Same.{same}
 use Rattle.mech_rows.proofs.SameTrees.{same_is}
-use Rattle.mech_rows.specs.Runs.{Notes, Keys, Run, value, clear_item, clear_slots, seen, seen_in, seen_slots, nth}
-use Rattle.mech_rows.specs.Steps.{Sealer, ItemBy, ItemsAre, Fits}
-use Rattle.mech_rows.specs.Verdict.{Noted, State, Taken, run_of, bind, items_of, at, has_kind, are_clear, are_kept, clear_names, message_items, note_clear, read_slots, text_bytes, text_refusal, refused_text, unless, seens, judged_parts, on_pass, verdict}
-use Rattle.mech_rows.specs.Lawful.{tested_by, acted_slots, AreNoted, IsWelcome, Receives, TextsAllowed, are_ready, are_judged}
-use Rattle.mech_rows.proofs.Reading.{Grows, bind_ok, ok_is, extends_more, clear_read, picked, two_picked, tuple_of_items}
+use Rattle.mech_rows.specs.Runs.{Keys, value, clear_slots, seen_in, nth}
+use Rattle.mech_rows.specs.Verdict.{Noted, State, Taken, bind, items_of, at, are_clear, are_kept, clear_names, message_items, note_clear, read_slots, text_bytes, text_refusal, refused_text, unless, seens, judged_parts, on_pass, verdict}
+use Rattle.mech_rows.specs.Lawful.{acted_slots, AreNoted, IsWelcome, Receives, TextsAllowed, are_ready, are_judged}
+use Rattle.mech_rows.proofs.Reading.{bind_ok, ok_is, extends_more, clear_read, picked, two_picked, tuple_of_items}
 use Rattle.mech_rows.proofs.Parts.{extends_noted, noted_grows, noted_more, parts_read}
 
 -- the row fact: each receiver can judge what it is shown

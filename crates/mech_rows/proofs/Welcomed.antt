@@ -1,30 +1,29 @@
 -- A message that the run welcomes is taken, with these notes.
-use Rattle.std.proofs.Common.{◌≡◌, ◌==◌, ◌+◌, ◌≤◌, ℕ, zero, suc, Bool, true, false, ◌&&◌, ◌⊎◌, inl, inr, List, [], ◌∷◌, ◌++◌, map, length, nat_le, Option, Some, None, Result, Ok, Err, if◌then◌else◌, refl, sym, ap, ap₂, subst, ◌∙◌, arith, rules, eq-eqb}
+use Rattle.std.proofs.Common.{◌≡◌, ◌==◌, ◌+◌, ◌≤◌, ℕ, suc, Bool, true, false, ◌&&◌, ◌⊎◌, inl, inr, List, [], ◌∷◌, ◌++◌, map, length, Option, Some, None, Result, Ok, Err, if◌then◌else◌, refl, sym, ap, ap₂, subst, ◌∙◌, arith, eq-eqb}
 use Rattle.std.specs.List.{list_all}
 use Rattle.std.proofs.lemmas.Bool.{le-leb}
 use Rattle.std.proofs.lemmas.List.{append-nil, length-append, length-map}
-use Rattle.term_values.specs.Trees.{Among, Bytes, Tree, name, tag, tuple, none, trees, untrees}
+use Rattle.term_values.specs.Trees.{Among, Bytes, Tree, name, tag, tuple, trees}
 use Rattle.term_values.specs.Lengths.{length_of}
 use Rattle.term_values.specs.declared.small.Key.{Key}
-use Rattle.term_values.proofs.Lists.{among_append, among_left, among_right, and_left, and_right, and_both}
+use Rattle.term_values.proofs.Lists.{among_left, among_right, and_left, and_right, and_both}
 use Rattle.term_values.proofs.Trees.{untrees_trees}
 use Rattle.mech_rows.specs.declared.kinds.Mech.{Mech}
 use Rattle.mech_rows.specs.declared.kinds.Slot.{Slot}
 use Rattle.mech_rows.specs.declared.kinds.Slot.TheVariants.{Fwd}
-use Rattle.mech_rows.specs.declared.kinds.Clear.{Clear}
 use Rattle.mech_rows.specs.declared.kinds.Under.{Under}
 use Rattle.mech_rows.specs.declared.kinds.Kind.{Kind}
 use Rattle.mech_rows.specs.declared.kinds.Kind.TheVariants.{Nonce as a_nonce, Stamp as a_stamp, Part as a_part, Text as a_text, Item as an_item}
 use Rattle.mech_rows.specs.declared.refusal.Refusal.{Refusal}
-use Rattle.mech_rows.specs.declared.refusal.Refusal.TheVariants.{WrongPass, WrongShape, WrongNames, WrongValue, Unopened, TextRefused}
+use Rattle.mech_rows.specs.declared.refusal.Refusal.TheVariants.{WrongPass, WrongShape, WrongNames, TextRefused}
 use Rattle.mech_rows.specs.Rows.{kind_of, tag_of, Cover, Pass, row_of}
 use Rattle.mech_rows.specs.Heads.{Head}
 use Rattle.mech_rows.specs.Found.{found}
 use Rattle.mech_rows.specs.Same.{same}
 use Rattle.mech_rows.proofs.SameTrees.{same_refl}
-use Rattle.mech_rows.specs.Runs.{Notes, Keys, Opening, Got, HasKind, Extends, nth, value, noted_or_empty, clear_item, clear_slots, key_under, names, body, seen, seen_in, seen_slots}
+use Rattle.mech_rows.specs.Runs.{Notes, Keys, Opening, Got, Extends, nth, value, noted_or_empty, clear_item, clear_slots, key_under, names, body, seen, seen_in, seen_slots}
 use Rattle.mech_rows.specs.Steps.{ItemBy, ItemsAre, openings, got_of}
-use Rattle.mech_rows.specs.Verdict.{Noted, State, Taken, run_of, bind, items_of, at, has_kind, is_name, are_kinds, are_clear, are_kept, clear_names, name_kinds, same_names, message_items, body_items, note_slot, note_slots, note_clear, names_of, taken_by, opened_part, tested_part, kept_part, joined, seens, judged_part, judged_parts, read_slots, text_bytes, text_refusal, refused_text, unless, on_pass, verdict}
+use Rattle.mech_rows.specs.Verdict.{Noted, State, Taken, bind, at, has_kind, is_name, are_kinds, are_clear, are_kept, clear_names, name_kinds, same_names, message_items, body_items, note_slots, note_clear, names_of, taken_by, opened_part, tested_part, joined, seens, judged_part, judged_parts, read_slots, text_bytes, text_refusal, refused_text, unless, on_pass, verdict}
 use Rattle.mech_rows.specs.Lawful.{tested_by, acted_slots, AreNoted, IsWelcome, Receives, TextsAllowed, drawn_slots, needed_slots, shown_slots, stands_in, are_ready}
 use Rattle.mech_rows.proofs.Reading.{Grows, ok_is, extends_more, clear_read, picked, value_is}
 use Rattle.mech_rows.proofs.Parts.{extends_noted, noted_grows, noted_more, values_same, key_same, names_are, part_read, parts_read, ready_noted, kept_first, PartsShow}

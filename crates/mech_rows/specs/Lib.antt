@@ -14,3 +14,6 @@ pub mod Codes
 pub mod Same
 pub mod Verdict
 pub mod Lawful
+pub mod Openings
+pub mod Replies
+pub mod Moves

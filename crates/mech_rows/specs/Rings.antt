@@ -21,3 +21,7 @@ pub record Ring : Type 0 where
 abbrev pub part_by : List Peer → ℕ → Option Bytes
 part_by [] n = None
 part_by (p ∷ ps) n = if p.name == n then p.part else part_by ps n
+
+-- the long-term keys that a ring has are those of its own pairs
+abbrev pub keys_in : Ring → ℕ → ℕ → Option Bytes
+keys_in ring x y = if x == ring.me then part_by ring.peers y else if y == ring.me then part_by ring.peers x else None

@@ -5,9 +5,8 @@ use Rattle.term_values.specs.Lengths.{length_of}
 use Rattle.term_values.specs.declared.small.Key.{Key}
 use Rattle.term_values.specs.declared.small.Key.TheVariants.{One, Two}
 use Rattle.term_values.specs.declared.small.Stamp.{Stamp}
-use Rattle.mech_rows.specs.declared.kinds.Mech.{Mech}
 use Rattle.mech_rows.specs.declared.kinds.Role.{Role}
-use Rattle.mech_rows.specs.declared.kinds.Role.TheVariants.{A, B, P}
+use Rattle.mech_rows.specs.declared.kinds.Role.TheVariants.{P}
 use Rattle.mech_rows.specs.declared.kinds.Slot.{Slot}
 use Rattle.mech_rows.specs.declared.kinds.Slot.TheVariants.{Fa, Fwd}
 use Rattle.mech_rows.specs.declared.kinds.Kind.{Kind}

@@ -99,7 +99,7 @@ Replies opens keys h k old new None sealed = (new ≡ old) × (sealed ≡ []) ×
 -- It takes a message that fits, or none where it sends the first message; it then sends the next pass where that is its own
 pub record IsStep (opens : Sealer) (keys : Keys) (step : Step) : Type 0 where
   pub same_head : step.after.head ≡ step.before.head
-  pub acts : step.taken ≡ None → step.reply ≢ None
+  pub acts : step.taken ≡ None → (step.before.next ≡ 0) × (step.reply ≢ None)
   pub takes : Takes opens keys step.before step.taken step.middle step.opened step.got
   pub replies : Replies opens keys step.before.head (reply_pass step) step.middle step.after.notes step.reply step.sealed
   pub moves : step.after.next ≡ next_act step.before.head (passed (reply_pass step) step.reply)

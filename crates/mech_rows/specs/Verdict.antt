@@ -1,5 +1,5 @@
 -- What is said of a message that a run is given, by the row. Each definition goes by the row, never by the message.
-use Rattle.std.specs.Prelude.{◌≡◌, ◌==◌, ◌+◌, ℕ, zero, suc, Bool, true, false, ◌&&◌, List, [], ◌∷◌, ◌++◌, map, length, get_or, nat_le, Option, Some, None, Result, Ok, Err, if◌then◌else◌}
+use Rattle.std.specs.Prelude.{◌==◌, ◌+◌, ℕ, suc, Bool, true, false, ◌&&◌, List, [], ◌∷◌, ◌++◌, length, get_or, nat_le, Option, Some, None, Result, Ok, Err, if◌then◌else◌}
 use Rattle.term_values.specs.Trees.{Bytes, Tree, name, stamp, nonce, text, tag, tuple, none, untrees}
 use Rattle.term_values.specs.Trees as term
 use Rattle.term_values.specs.Lengths.{length_of}
