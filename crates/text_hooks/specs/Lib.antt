@@ -1,1 +1,4 @@
 pub mod Rules
+pub mod Drawn
+pub mod Parts
+pub mod Refused

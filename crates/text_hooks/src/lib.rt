@@ -1,48 +1,29 @@
-//! Rules on the texts that a node takes.
+//! Rules on the texts that a node takes, and what the steps of all mechanisms share.
 #![tactic(auto)]
 
 mod hook;
+mod making;
+mod openings;
+mod own_texts;
+mod reading;
+mod role_state;
 mod rule;
+mod sealing;
+mod steps;
+mod values;
 
 pub use hook::{Hook, Judgement};
+pub use making::{
+    SlotValue, body_of, message_of, name_term, nonce_term, stamp_term, tag_term, text_term,
+};
+pub use openings::{key_between, one_opening, one_stamp, open_item, test_item};
+pub use own_texts::own_text;
+pub use reading::{item_at, read_body, read_message};
+pub use role_state::{Reply, RoleState, Taken};
 pub use rule::{Rule, judge_by};
+pub use sealing::{check_item, draw_nonce, seal_item};
+pub use steps::{compose, first, prepare};
+pub use values::{compare_nonce, judge_text, nonce_at, stamp_at, text_at};
 
 #[cfg(test)]
-mod tests {
-    use super::*;
-    use mech_rows::{Mech, Slot};
-    use std::test::Fail;
-    use term_values::Text;
-
-    #[test]
-    fn texts_are_judged(rt: HostRuntime) -> Result<(), Fail> {
-        let prefix = Text::new(b"ab".to_vec(rt.alloc())?)?;
-        let rule = Rule {
-            mech: Mech::E2,
-            slot: Slot::X2,
-            longest: 3,
-            prefix,
-        };
-        let rules = vec![in rt.alloc(); rule.copy(rt.alloc())?]?;
-        assert_eq!(rt; judge_by(&rules, Mech::E2, Slot::X2, b"ab"), true);
-        assert_eq!(rt; judge_by(&rules, Mech::E2, Slot::X2, b"abc"), true);
-        assert_eq!(rt; judge_by(&rules, Mech::E2, Slot::X2, b"abcd"), false);
-        assert_eq!(rt; judge_by(&rules, Mech::E2, Slot::X2, b"ba"), false);
-        assert_eq!(rt; judge_by(&rules, Mech::E2, Slot::X2, b""), false);
-        assert_eq!(rt; judge_by(&rules, Mech::E2, Slot::X3, b"ba"), true);
-        assert_eq!(rt; judge_by(&rules, Mech::E1, Slot::X2, b"ba"), true);
-        assert_eq!(rt; judge_by(&[], Mech::E2, Slot::X2, b"ba"), true);
-
-        let same = vec![in rt.alloc(); rule]?;
-        let judgement: Judgement = Box::new(
-            rt.alloc(),
-            move |mech: Mech, slot: Slot, text: &[u8]| judge_by(&same, mech, slot, text),
-        )?;
-        let hook = Hook::new(rules, judgement);
-        assert!(rt; hook.judge(Mech::E2, Slot::X2, b"abc"));
-        assert!(rt; !hook.judge(Mech::E2, Slot::X2, b"abcd"));
-        assert!(rt; hook.judge(Mech::E2, Slot::X3, b"ba"));
-        assert_eq!(rt; hook.rules().len(), 1);
-        Ok(())
-    }
-}
+mod tests;

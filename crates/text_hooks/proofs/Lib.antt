@@ -1,0 +1,5 @@
+pub mod Items
+pub mod Limits
+pub mod Stepped
+pub mod Texts
+pub mod Draws
