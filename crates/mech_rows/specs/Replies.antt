@@ -1,10 +1,13 @@
 -- What a run says next, by its row, and what it draws and issues for it.
-use Rattle.std.specs.Prelude.{◌≡◌, suc, Bool, true, false, List, [], ◌∷◌, ◌++◌, map, take, drop, length, Option, Some, None, ◌&&◌, ◌==◌, if◌then◌else◌}
+use Rattle.std.specs.Prelude.{◌≡◌, suc, Bool, true, false, List, [], ◌∷◌, ◌++◌, map, take, drop, length, Option, Some, None, Result, Err, ◌&&◌, ◌==◌, if◌then◌else◌}
 use Rattle.std.specs.List.{list_all, list_any}
-use Rattle.term_values.specs.Trees.{Tree, tag, tuple, none, trees}
+use Rattle.term_values.specs.Trees.{Bytes, Tree, tag, tuple, none, trees}
 use Rattle.term_values.specs.declared.small.Key.{Key}
 use Rattle.term_values.specs.declared.small.Stamp.{Stamp}
 use Rattle.mech_rows.specs.declared.kinds.Kind.{Kind}
+use Rattle.mech_rows.specs.declared.kinds.Mech.{Mech}
+use Rattle.mech_rows.specs.declared.refusal.Refusal.{Refusal}
+use Rattle.mech_rows.specs.declared.refusal.Refusal.TheVariants.{WrongPass}
 use Rattle.mech_rows.specs.declared.kinds.Role.{Role}
 use Rattle.mech_rows.specs.declared.kinds.Role.TheVariants.{P}
 use Rattle.mech_rows.specs.declared.kinds.Slot.{Slot}
@@ -15,7 +18,7 @@ use Rattle.mech_rows.specs.Found.{found}
 use Rattle.mech_rows.specs.Heads.{Head}
 use Rattle.mech_rows.specs.Runs.{Notes, Keys, value, key_under, body, clear_item, nth, sent_slots, next_act, Opening}
 use Rattle.mech_rows.specs.Steps.{stamp_in}
-use Rattle.mech_rows.specs.Verdict.{Noted, State, has_kind}
+use Rattle.mech_rows.specs.Verdict.{Noted, State, Taken, has_kind, verdict}
 use Rattle.mech_rows.specs.Lawful.{tested_by, stands_in, acted_slots}
 
 -- the slots that are noted, in order
@@ -79,6 +82,10 @@ sends_first s = sends s && (s.next == 0)
 -- the run's role receives its next pass
 abbrev pub receives : State → Bool
 receives s = ends_at (λ p. p.to) s.head.role (nth (row_of s.head.mech) s.next)
+
+-- what a run says of a message: the verdict, where its role receives its next pass
+abbrev pub run_verdict : (Key → Tree → Option Tree) → (Key → Tree → Tree → Bool) → (Mech → Slot → Bytes → Bool) → Keys → State → Tree → Result Taken Refusal
+run_verdict opens checks allowed keys s m = if receives s then verdict opens checks keys allowed s m else Err WrongPass
 
 -- those of the slots that are not known, each once, in order
 abbrev pub unknown_slots : List Slot → List Slot → List Slot

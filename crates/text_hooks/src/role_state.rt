@@ -1,15 +1,15 @@
-ghost use Rattle.std.specs.Prelude.{◌≡◌, ◌≢◌, ◌≤◌, ◌↔◌, Bool, true, Ok, Err, suc, ◌+◌, length, IsTrue, IfOk, IfErr, is_some, is_none};
+ghost use Rattle.std.specs.Prelude.{◌≡◌, ◌≢◌, ◌≤◌, ◌↔◌, Bool, true, Ok, Err, suc, ◌+◌, length, IsTrue, OnOk, IfOk, IfErr, is_some, is_none, false, ◌⊎◌};
 ghost use Rattle.tagged_codec.specs.Grammar.{IsInLimits};
 ghost use Rattle.outside.specs.Causes.{Rose};
 ghost use Rattle.mech_rows.specs.Notes.{are_of_kinds, terms_of};
 ghost use Rattle.mech_rows.specs.Heads.{Head};
 ghost use Rattle.mech_rows.specs.Openings.{has_parts, opened_state};
-ghost use Rattle.mech_rows.specs.Replies.{sends, sends_first, receives, needs_stamp, has_acted, new_slots, next_pass, made_in, in_order, Says};
+ghost use Rattle.mech_rows.specs.Replies.{sends, sends_first, receives, needs_stamp, has_acted, new_slots, next_pass, made_in, in_order, run_verdict, Says};
 ghost use Rattle.mech_rows.specs.Rings.{keys_in};
 ghost use Rattle.mech_rows.specs.Rows.{row_of};
 ghost use Rattle.mech_rows.specs.Runs.{nth};
-ghost use Rattle.mech_rows.specs.Verdict.{verdict};
-ghost use Rattle.mech_rows.specs.declared.refusal.Refusal.TheVariants.{Memory, DrawFault};
+ghost use Rattle.mech_rows.specs.Verdict.{State};
+ghost use Rattle.mech_rows.specs.declared.refusal.Refusal.TheVariants.{Memory, WrongPass, DrawFault};
 ghost use Rattle.text_hooks.specs.Drawn.{DrawsAre, MovedOn};
 ghost use Rattle.text_hooks.specs.Rules.{allowed};
 
@@ -110,7 +110,7 @@ pub trait RoleState: Stated {
     ///
     /// # Errors
     ///
-    /// The first refusal of the verdict, 4 to 8 and 14; want of memory.
+    /// The first refusal of the verdict, 4 to 8 and 14; `WrongPass` where its role doesn't receive the next pass; want of memory.
     fn take<S: Sealer>(
         &self,
         alloc: Global,
@@ -119,19 +119,19 @@ pub trait RoleState: Stated {
         hook: &Hook,
         term: &Term,
     ) -> Result<Taken<Self>, Refusal>
-        requires receives { receives (Self.state_of self.now) ≡ true }
         requires parts { has_parts ring.now (Self.state_of self.now).head ≡ true }
         ensures acted { has_acted (Self.state_of self.now) ≡ true }
-        ensures fit { IfOk result (λ t. verdict S.opens S.checks (keys_in ring.now) (allowed hook.now.rules.items) (Self.state_of self.now) term.now ≡ Ok (record { notes = (Self.state_of t.after).notes; opened = t.opened.items; got = t.got.items })) }
+        ensures fit { IfOk result (λ t. run_verdict S.opens S.checks (allowed hook.now.rules.items) (keys_in ring.now) (Self.state_of self.now) term.now ≡ Ok (record { notes = (Self.state_of t.after).notes; opened = t.opened.items; got = t.got.items })) }
         ensures same_head { IfOk result (λ t. (Self.state_of t.after).head ≡ (Self.state_of self.now).head) }
         ensures moves { IfOk result (λ t. (Self.state_of t.after).next ≡ suc (Self.state_of self.now).next) }
-        ensures refused { IfErr result (λ e. e ≢ Memory → verdict S.opens S.checks (keys_in ring.now) (allowed hook.now.rules.items) (Self.state_of self.now) term.now ≡ Err e) };
+        ensures refused { IfErr result (λ e. e ≢ Memory → run_verdict S.opens S.checks (allowed hook.now.rules.items) (keys_in ring.now) (Self.state_of self.now) term.now ≡ Err e) };
 
     /// Says the message of its next pass. A stamp is given exactly where one is needed.
     ///
     /// # Errors
     ///
-    /// `DrawFault`, only where the count of faults rose in this call; want of memory.
+    /// `WrongPass` exactly where its role doesn't send the next pass; `DrawFault`, only where the count of faults rose in this
+    /// call; want of memory.
     fn say<S: Sealer, D: Draws>(
         &self,
         alloc: Global,
@@ -140,13 +140,13 @@ pub trait RoleState: Stated {
         draws: &mut D,
         stamp: Option<Stamp>,
     ) -> Result<Reply<Self>, Refusal>
-        requires sends { sends (Self.state_of self.now) ≡ true }
         requires parts { has_parts ring.now (Self.state_of self.now).head ≡ true }
         requires stamp { is_some stamp ≡ needs_stamp (Self.state_of self.now) }
+        ensures sending { OnOk result (sends (Self.state_of self.now) ≡ true) }
         ensures says { IfOk result (λ r. Says S.opens S.checks (keys_in ring.now) (Self.state_of self.now) (Self.state_of r.after) r.message r.sealed.items stamp) }
         ensures limits { IfOk result (λ r. IsInLimits r.message) }
         ensures drawn { IfOk result (λ r. DrawsAre S.iv_of (S.wants_iv sealer.now) (D.told draws.old) (D.told draws.new) stamp (new_slots (Self.state_of self.now)) (made_in (next_pass (Self.state_of self.now)).covers) (Self.state_of self.now).notes (Self.state_of r.after).notes r.sealed.items) }
         ensures moved { MovedOn (length (new_slots (Self.state_of self.now)) + length (made_in (next_pass (Self.state_of self.now)).covers)) (D.told draws.old) (D.told draws.new) }
         ensures later { D.fault_count draws.old ≤ D.fault_count draws.new }
-        ensures refused { IfErr result (λ e. e ≢ Memory → (e ≡ DrawFault) × Rose (D.fault_count draws.old) (D.fault_count draws.new)) };
+        ensures refused { IfErr result (λ e. e ≢ Memory → ((sends (Self.state_of self.now) ≡ false) × (e ≡ WrongPass)) ⊎ ((e ≡ DrawFault) × Rose (D.fault_count draws.old) (D.fault_count draws.new))) };
 }

@@ -1,0 +1,9 @@
+pub mod E1A
+pub mod E1B
+pub mod E2A
+pub mod E2B
+pub mod E3A
+pub mod E3B
+pub mod E4A
+pub mod E4B
+pub mod EStates

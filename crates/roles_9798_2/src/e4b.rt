@@ -1,0 +1,448 @@
+ghost use Rattle.std.specs.Prelude.{◌≡◌, ◌≢◌, ◌∷◌, [], ◌↔◌, true, length, IsTrue, Some, Ok, Err, IfOk, IfErr};
+ghost use Rattle.mech_rows.specs.declared.kinds.Clear.TheVariants.{Slot as Shown};
+ghost use Rattle.mech_rows.specs.declared.kinds.Slot.TheVariants.{X3};
+ghost use Rattle.mech_rows.specs.Notes.{are_of_kinds, terms_of};
+ghost use Rattle.mech_rows.specs.Replies.{in_order};
+ghost use Rattle.mech_rows.specs.Rings.{keys_in};
+ghost use Rattle.mech_rows.specs.Runs.{bytes_or_empty};
+ghost use Rattle.mech_rows.specs.Openings.{has_parts};
+ghost use Rattle.mech_rows.specs.Verdict.{verdict, message_items, at, are_clear};
+ghost use Rattle.mech_rows.specs.declared.refusal.Refusal.TheVariants.{Memory};
+ghost use Rattle.tagged_codec.specs.Grammar.{IsInLimits};
+ghost use Rattle.term_values.specs.Trees.{tag, nonce, text, trees, tuple};
+ghost use Rattle.term_values.specs.declared.small.Key.TheVariants.{One};
+ghost use Rattle.text_hooks.specs.Parts.{body_of, IsFlat};
+ghost use Rattle.text_hooks.specs.declared.making.SlotValue.TheVariants.{Nonce as NonceValue};
+ghost use Rattle.text_hooks.specs.Rules.{allowed};
+ghost use Rattle.roles_9798_2.specs.E4B.{state_of, head, is_e4b};
+ghost use Rattle.roles_9798_2.specs.declared.e4b.E4B.TheVariants.{Asked, Heard};
+
+use mech_rows::{
+    Clear, Mech, Notes, Opening, Refusal, Ring, Role, RunHead, Slot, Stated, Texts, Value,
+};
+use outside::Draws;
+use seal_trait::Sealer;
+use std::alloc::Global;
+use term_values::{Name, Nonce, OutOfMemory, Stamp, Tag, Term, Text};
+use text_hooks::{
+    Hook, Reply, RoleState, SlotValue, Taken, body_of, compare_nonce, draw_nonce, item_at,
+    judge_text, key_between, message_of, nonce_at, nonce_term, one_opening, open_item, own_text,
+    read_body, read_message, seal_item, tag_term, text_at, text_term,
+};
+
+/// The parties, and the texts that B sends.
+#[derive(Drop)]
+pub struct Own {
+    /// The name of A.
+    pub a: Name,
+    /// The name of B.
+    pub b: Name,
+    /// The text of the first message.
+    pub x1: Text,
+    /// The sealed text of the third message.
+    pub x4: Text,
+    /// The clear text of the third message.
+    pub x5: Text,
+}
+
+impl Own {
+    fn copy(&self, alloc: Global) -> Result<Own, OutOfMemory>
+        ensures equal { IfOk result (λ own. own ≡ self.now) }
+    {
+        Ok(Own {
+            a: self.a,
+            b: self.b,
+            x1: self.x1.copy(alloc)?,
+            x4: self.x4.copy(alloc)?,
+            x5: self.x5.copy(alloc)?,
+        })
+    }
+
+    fn same(&self, other: &Own) -> bool
+        ensures same { IsTrue result ↔ (self.now ≡ other.now) }
+    {
+        self.a == other.a
+            && self.b == other.b
+            && self.x1.list() == other.x1.list()
+            && self.x4.list() == other.x4.list()
+            && self.x5.list() == other.x5.list()
+    }
+}
+
+/// What the second message shows.
+#[derive(Drop)]
+pub struct Second {
+    /// The clear text.
+    pub x3: Text,
+    /// The nonce of A.
+    pub ra: Nonce,
+    /// The sealed text.
+    pub x2: Text,
+}
+
+impl Second {
+    fn copy(&self, alloc: Global) -> Result<Second, OutOfMemory>
+        ensures equal { IfOk result (λ second. second ≡ self.now) }
+    {
+        Ok(Second {
+            x3: self.x3.copy(alloc)?,
+            ra: self.ra,
+            x2: self.x2.copy(alloc)?,
+        })
+    }
+
+    fn same(&self, other: &Second) -> bool
+        ensures same { IsTrue result ↔ (self.now ≡ other.now) }
+    {
+        self.x3.list() == other.x3.list()
+            && self.ra == other.ra
+            && self.x2.list() == other.x2.list()
+    }
+}
+
+/// B in E4.
+#[derive(Drop)]
+pub enum E4B {
+    /// It sends the first message.
+    Start { own: Own },
+    /// It waits for the second message.
+    Asked { own: Own, rb: Nonce },
+    /// It has heard the second message.
+    Heard { own: Own, rb: Nonce, second: Second },
+    /// It has sent the third message.
+    Done { own: Own, rb: Nonce, second: Second },
+}
+
+impl Stated for E4B {
+    ghost use Rattle.roles_9798_2.specs.E4B.{state_of as state_of_e4b};
+
+    ghost state_of = { state_of_e4b };
+}
+
+/// What the second message shows, and what it opened, where it fits.
+fn take_second<S: Sealer>(
+    alloc: Global,
+    sealer: &S,
+    ring: &Ring,
+    hook: &Hook,
+    own: &Own,
+    rb: &Nonce,
+    term: &Term,
+) -> Result<(Second, Opening), Refusal>
+    requires parts { has_parts ring.now (head own.now) ≡ true }
+    ensures fit { IfOk result (λ p. verdict S.opens S.checks (keys_in ring.now) (allowed hook.now.rules.items) (state_of (Asked own.now rb.now)) term.now ≡ Ok (record { notes = (state_of (Heard own.now rb.now p.0)).notes; opened = p.1 ∷ []; got = [] })) }
+    ensures refused { IfErr result (λ e. e ≢ Memory → verdict S.opens S.checks (keys_in ring.now) (allowed hook.now.rules.items) (state_of (Asked own.now rb.now)) term.now ≡ Err e) }
+{
+    let items = read_message(
+        term,
+        &Tag([1, 4, 2, 0]),
+        own.b,
+        &[Clear::Slot(Slot::X3)],
+        &[true],
+    )?;
+    let key = key_between(ring, own.a, own.b);
+    let opening = open_item(alloc, sealer, key, item_at(items, 2), 1)?;
+    let second = second_of::<S>(alloc, ring, hook, own, rb, term, items, &opening.body)?;
+    Ok((second, opening))
+}
+
+fn second_of<S: Sealer>(
+    alloc: Global,
+    ring: &Ring,
+    hook: &Hook,
+    own: &Own,
+    rb: &Nonce,
+    term: &Term,
+    items: &[Term],
+    body: &Term,
+) -> Result<Second, Refusal>
+    requires length { length items.now ≡ 3 }
+    requires kinds { are_clear items.now 1 (Shown X3 ∷ []) ≡ true }
+    requires items { message_items (1 ∷ 4 ∷ 2 ∷ 0 ∷ []) own.now.b (Shown X3 ∷ []) (true ∷ []) term.now ≡ Ok items.now }
+    requires opened { S.opens (One (bytes_or_empty (keys_in ring.now own.now.a own.now.b))) (at items.now 2) ≡ Some body.now }
+    ensures fit { IfOk result (λ s. verdict S.opens S.checks (keys_in ring.now) (allowed hook.now.rules.items) (state_of (Asked own.now rb.now)) term.now ≡ Ok (record { notes = (state_of (Heard own.now rb.now s)).notes; opened = record { key = One (bytes_or_empty (keys_in ring.now own.now.a own.now.b)); item = at items.now 2; body = body.now } ∷ []; got = [] })) }
+    ensures refused { IfErr result (λ e. e ≢ Memory → verdict S.opens S.checks (keys_in ring.now) (allowed hook.now.rules.items) (state_of (Asked own.now rb.now)) term.now ≡ Err e) }
+{
+    let slots = read_body(
+        body,
+        &Tag([1, 4, 2, 1]),
+        &[own.a, own.b],
+        &[Slot::Ra, Slot::Rb, Slot::X2],
+        1,
+    )?;
+    compare_nonce(&nonce_at(slots, 4), rb, 1, Slot::Rb)?;
+    let x3 = text_at(items, 1);
+    let x2 = text_at(slots, 5);
+    judge_text(hook, Mech::E4, Slot::X3, x3)?;
+    judge_text(hook, Mech::E4, Slot::X2, x2)?;
+    Ok(Second {
+        x3: x3.copy(alloc)?,
+        ra: nonce_at(slots, 3),
+        x2: x2.copy(alloc)?,
+    })
+}
+
+/// The notes of a run that has heard the second message.
+fn heard_notes(alloc: Global, own: &Own, rb: &Nonce, second: &Second) -> Result<Notes, OutOfMemory>
+    ensures notes { IfOk result (λ ns. terms_of ns ≡ in_order (state_of (Heard own.now rb.now second.now)).notes) }
+    ensures kinds { IfOk result (λ ns. are_of_kinds ns ≡ true) }
+{
+    let x1 = Value::Text(own.x1.copy(alloc)?);
+    let x2 = Value::Text(second.x2.copy(alloc)?);
+    let x3 = Value::Text(second.x3.copy(alloc)?);
+    let x4 = Value::Text(own.x4.copy(alloc)?);
+    let x5 = Value::Text(own.x5.copy(alloc)?);
+    Ok(Notes::new(vec![in alloc;
+        (Slot::Ra, Value::Nonce(second.ra)),
+        (Slot::Rb, Value::Nonce(*rb)),
+        (Slot::X1, x1),
+        (Slot::X2, x2),
+        (Slot::X3, x3),
+        (Slot::X4, x4),
+        (Slot::X5, x5),
+    ]?))
+}
+
+/// The first message, with this nonce.
+fn first_message(alloc: Global, own: &Own, rb: &Nonce) -> Result<Term, Refusal>
+    ensures term { IfOk result (λ t. t ≡ tuple (trees (tag (1 ∷ 4 ∷ 1 ∷ 0 ∷ []) ∷ nonce rb.now ∷ text own.now.x1 ∷ []))) }
+    ensures limits { IfOk result IsInLimits }
+    ensures memory { IfErr result (λ e. e ≡ Memory) }
+{
+    let shown = vec![in alloc;
+        tag_term(Tag([1, 4, 1, 0])),
+        nonce_term(rb),
+        text_term(alloc, &own.x1)?,
+    ]?;
+    message_of(alloc, shown, &[])
+}
+
+/// The body of the third message.
+fn third_body(alloc: Global, own: &Own, rb: &Nonce, ra: &Nonce) -> Result<Term, Refusal>
+    ensures term { IfOk result (λ t. t ≡ body_of (1 ∷ 4 ∷ 3 ∷ 1 ∷ []) (own.now.a ∷ own.now.b ∷ []) (NonceValue rb.now ∷ NonceValue ra.now ∷ []) own.now.x4) }
+    ensures flat { IfOk result IsFlat }
+    ensures memory { IfErr result (λ e. e ≡ Memory) }
+{
+    body_of(
+        alloc,
+        Tag([1, 4, 3, 1]),
+        &[own.a, own.b],
+        &[SlotValue::Nonce(*rb), SlotValue::Nonce(*ra)],
+        &own.x4,
+    )
+}
+
+impl RoleState for E4B {
+    ghost plays = { is_e4b };
+
+    fn begin(alloc: Global, head: &RunHead, texts: &Texts) -> Result<E4B, OutOfMemory> {
+        let x1 = own_text(alloc, texts, Slot::X1)?;
+        let x4 = own_text(alloc, texts, Slot::X4)?;
+        let x5 = own_text(alloc, texts, Slot::X5)?;
+        Ok(E4B::Start {
+            own: Own {
+                a: head.a,
+                b: head.b,
+                x1,
+                x4,
+                x5,
+            },
+        })
+    }
+
+    fn head(&self) -> RunHead {
+        let own = match self {
+            E4B::Start { own } => own,
+            E4B::Asked { own, .. } => own,
+            E4B::Heard { own, .. } => own,
+            E4B::Done { own, .. } => own,
+        };
+        RunHead {
+            mech: Mech::E4,
+            role: Role::B,
+            a: own.a,
+            b: own.b,
+            p: None,
+        }
+    }
+
+    fn copy(&self, alloc: Global) -> Result<E4B, OutOfMemory> {
+        match self {
+            E4B::Start { own } => {
+                let own = own.copy(alloc)?;
+                Ok(E4B::Start { own })
+            }
+            E4B::Asked { own, rb } => {
+                let own = own.copy(alloc)?;
+                Ok(E4B::Asked { own, rb: *rb })
+            }
+            E4B::Heard { own, rb, second } => {
+                let own = own.copy(alloc)?;
+                let second = second.copy(alloc)?;
+                Ok(E4B::Heard {
+                    own,
+                    rb: *rb,
+                    second,
+                })
+            }
+            E4B::Done { own, rb, second } => {
+                let own = own.copy(alloc)?;
+                let second = second.copy(alloc)?;
+                Ok(E4B::Done {
+                    own,
+                    rb: *rb,
+                    second,
+                })
+            }
+        }
+    }
+
+    fn same(&self, other: &E4B) -> bool {
+        match (self, other) {
+            (E4B::Start { own }, E4B::Start { own: own2 }) => own.same(own2),
+            (E4B::Asked { own, rb }, E4B::Asked { own: own2, rb: rb2 }) => {
+                own.same(own2) && rb == rb2
+            }
+            (
+                E4B::Heard { own, rb, second },
+                E4B::Heard {
+                    own: own2,
+                    rb: rb2,
+                    second: second2,
+                },
+            ) => own.same(own2) && rb == rb2 && second.same(second2),
+            (
+                E4B::Done { own, rb, second },
+                E4B::Done {
+                    own: own2,
+                    rb: rb2,
+                    second: second2,
+                },
+            ) => own.same(own2) && rb == rb2 && second.same(second2),
+            _ => false,
+        }
+    }
+
+    fn notes(&self, alloc: Global) -> Result<Notes, OutOfMemory> {
+        match self {
+            E4B::Start { own } => {
+                let x1 = Value::Text(own.x1.copy(alloc)?);
+                let x4 = Value::Text(own.x4.copy(alloc)?);
+                let x5 = Value::Text(own.x5.copy(alloc)?);
+                Ok(Notes::new(vec![in alloc; (Slot::X1, x1), (Slot::X4, x4), (Slot::X5, x5)]?))
+            }
+            E4B::Asked { own, rb } => {
+                let x1 = Value::Text(own.x1.copy(alloc)?);
+                let x4 = Value::Text(own.x4.copy(alloc)?);
+                let x5 = Value::Text(own.x5.copy(alloc)?);
+                Ok(Notes::new(vec![in alloc;
+                    (Slot::Rb, Value::Nonce(*rb)),
+                    (Slot::X1, x1),
+                    (Slot::X4, x4),
+                    (Slot::X5, x5),
+                ]?))
+            }
+            E4B::Heard { own, rb, second } => heard_notes(alloc, own, rb, second),
+            E4B::Done { own, rb, second } => heard_notes(alloc, own, rb, second),
+        }
+    }
+
+    fn next(&self) -> u8 {
+        match self {
+            E4B::Start { .. } => 0,
+            E4B::Asked { .. } => 1,
+            E4B::Heard { .. } => 2,
+            E4B::Done { .. } => 3,
+        }
+    }
+
+    fn sends_first(&self) -> bool {
+        matches!(self, E4B::Start { .. })
+    }
+
+    fn sends(&self) -> bool {
+        matches!(self, E4B::Start { .. } | E4B::Heard { .. })
+    }
+
+    fn receives(&self) -> bool {
+        matches!(self, E4B::Asked { .. })
+    }
+
+    fn is_done(&self) -> bool {
+        matches!(self, E4B::Done { .. })
+    }
+
+    fn needs_stamp(&self) -> bool {
+        false
+    }
+
+    fn take<S: Sealer>(
+        &self,
+        alloc: Global,
+        sealer: &S,
+        ring: &Ring,
+        hook: &Hook,
+        term: &Term,
+    ) -> Result<Taken<E4B>, Refusal> {
+        let E4B::Asked { own, rb } = self else {
+            return Err(Refusal::WrongPass);
+        };
+        let (second, opening) = take_second(alloc, sealer, ring, hook, own, rb, term)?;
+        let opened = one_opening(alloc, opening)?;
+        let own = own.copy(alloc)?;
+        Ok(Taken {
+            after: E4B::Heard {
+                own,
+                rb: *rb,
+                second,
+            },
+            opened,
+            got: Vec::new(alloc),
+        })
+    }
+
+    fn say<S: Sealer, D: Draws>(
+        &self,
+        alloc: Global,
+        sealer: &S,
+        ring: &Ring,
+        draws: &mut D,
+        _stamp: Option<Stamp>,
+    ) -> Result<Reply<E4B>, Refusal> {
+        match self {
+            E4B::Start { own } => {
+                let rb = draw_nonce(draws)?;
+                let message = first_message(alloc, own, &rb)?;
+                let own = own.copy(alloc)?;
+                Ok(Reply {
+                    after: E4B::Asked { own, rb },
+                    message,
+                    sealed: Vec::new(alloc),
+                })
+            }
+            E4B::Heard { own, rb, second } => {
+                let body = third_body(alloc, own, rb, &second.ra)?;
+                let key = key_between(ring, own.a, own.b);
+                let item = seal_item(alloc, sealer, draws, key, body)?;
+                let sealed = one_opening(alloc, item)?;
+                let shown = vec![in alloc;
+                    tag_term(Tag([1, 4, 3, 0])),
+                    text_term(alloc, &own.x5)?,
+                ]?;
+                let message = message_of(alloc, shown, sealed.as_slice())?;
+                let own = own.copy(alloc)?;
+                let second = second.copy(alloc)?;
+                Ok(Reply {
+                    after: E4B::Done {
+                        own,
+                        rb: *rb,
+                        second,
+                    },
+                    message,
+                    sealed,
+                })
+            }
+            _ => Err(Refusal::WrongPass),
+        }
+    }
+}

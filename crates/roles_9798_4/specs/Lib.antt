@@ -1,0 +1,9 @@
+pub mod C1A
+pub mod C1B
+pub mod C2A
+pub mod C2B
+pub mod C3A
+pub mod C3B
+pub mod C4A
+pub mod C4B
+pub mod CStates
