@@ -1,0 +1,25 @@
+use Rattle.std.proofs.Common.{List, [], ◌∷◌, ◌++◌, sym, ap, subst, ◌∙◌, Some, arith}
+use Rattle.agreement_laws.specs.Nodes.{Log}
+use Rattle.node_desk.specs.declared.event.Event.{Event}
+use Rattle.node_desk.specs.declared.event.Event.TheVariants.{Issue}
+use Rattle.node_desk.specs.Events.{log_of}
+use Rattle.node_desk.specs.Desks.{IsUnused}
+use Rattle.node_desk.proofs.Logs.{log_of-snoc}
+use Rattle.node_desk.proofs.Used.{fresh-unused}
+use Rattle.node_desk.proofs.Kept.{kept-issue}
+use Rattle.node_desk.proofs.desk.Desk.issue.Goals as goal
+
+pub invariant_of-self-2 : goal.invariant_of-self-2
+invariant_of-self-2 g c =
+    let issued = c.in-Ok.ensures in
+    let log = c.push.ensures.added ∙ ap (λ (l : List Event). l ++ Issue c.tick-now.result c.in-Ok.stamp ∷ []) c.reserve.ensures.kept in
+    kept-issue _ _ _ _ _ _ _ _ _ _ _ _ _ _ _ _ c.args.clock _ _ c.self.invariant log
+    c.tick-now.ensures.answer issued.stamp issued.rises issued.last (c.tick-now.ensures.moved ∙ sym c.tick-now.ensures.answer) c.tick-now.ensures.window c.tick-now.ensures.stays
+    (let room = c.in_ok-reserve.ensures.room in let after = c.push.ensures.room in omega (arith, room, after))
+
+pub returns-clause-unused : goal.returns-clause-unused
+returns-clause-unused g c =
+    let issued = c.in-Ok.ensures in
+    let log = c.push.ensures.added ∙ ap (λ (l : List Event). l ++ Issue c.tick-now.result c.in-Ok.stamp ∷ []) c.reserve.ensures.kept in
+    subst (λ (l : Log). IsUnused (Some c.in-Ok.stamp) l) (sym (ap log_of log ∙ log_of-snoc c.self.inside.log.events (Issue c.tick-now.result c.in-Ok.stamp)))
+    (fresh-unused (log_of c.self.inside.log.events) c.self.inside.issuer.last c.tick-now.result c.in-Ok.stamp issued.rises c.self.invariant.stamps)

@@ -1,0 +1,9 @@
+pub mod Lives
+pub mod Events
+pub mod Helds
+pub mod Accepteds
+pub mod Openings
+pub mod Refusals
+pub mod Desks
+pub mod Deliveries
+pub mod Suits

@@ -1,0 +1,81 @@
+ghost use Rattle.std.specs.Prelude.{true, ◌≡◌, ◌≢◌, ◌+◌, ◌<◌, ◌↔◌, None, Some, Option, length, IfOk, IfErr, OnOk, IsTrue};
+ghost use Rattle.mech_rows.specs.declared.refusal.Refusal.{Refusal as RefusalOf};
+ghost use Rattle.mech_rows.specs.declared.refusal.Refusal.TheVariants.{Memory, Moved};
+ghost use Rattle.node_desk.specs.Helds.{table_at};
+ghost use Rattle.node_desk.specs.Lives.{live_state};
+ghost use Rattle.node_desk.specs.Refusals.{CommitAnswer, IsCurrent, run_refusal};
+
+use crate::event::Event;
+use crate::live::Live;
+use crate::place::{Place, latest};
+use mech_rows::{Refusal, Step};
+use std::alloc::Global;
+use text_hooks::RoleState;
+
+/// The place of an open run.
+pub(crate) fn find(places: &[Place], log: &[Event], run: u32) -> Result<usize, Refusal>
+    ensures place { IfOk result (λ place. place + 1 ≡ run) }
+    ensures within { IfOk result (λ place. place < length places.now) }
+    ensures running { OnOk result (run_refusal (table_at log.now places.now run) ≡ None) }
+    ensures refused { IfErr result (λ e. run_refusal (table_at log.now places.now run) ≡ Some e) }
+{
+    let number = run as usize;
+    if number == 0 || number > places.len() {
+        return Err(Refusal::UnknownRun);
+    }
+    if !places[number - 1].open {
+        return Err(Refusal::EndedRun);
+    }
+    Ok(number - 1)
+}
+
+/// Whether the state is that with which the step begins.
+fn is_current(state: &Live, step: &Step<Live>) -> bool
+    ensures { IsTrue result ↔ (live_state state.now ≡ step.now.before) }
+{
+    state.same(&step.before)
+}
+
+fn moved(state: &Live, step: &Step<Live>) -> Refusal
+    ensures { result ≡ Moved step.now.before.next (live_state state.now).next }
+{
+    Refusal::Moved {
+        made: step.before.next(),
+        held: state.next(),
+    }
+}
+
+/// The place of the open run with whose state the step begins.
+pub(crate) fn find_current(
+    places: &[Place],
+    log: &[Event],
+    run: u32,
+    step: &Step<Live>,
+) -> Result<usize, Refusal>
+    ensures place { IfOk result (λ place. place + 1 ≡ run) }
+    ensures within { IfOk result (λ place. place < length places.now) }
+    ensures current { OnOk result (IsCurrent (table_at log.now places.now run) step.now) }
+    ensures refused { IfErr result (λ e. (stamps : Option RefusalOf) → CommitAnswer (table_at log.now places.now run) step.now stamps (Some e)) }
+{
+    let place = find(places, log, run)?;
+    let state = latest(&places[place], log);
+    if !is_current(state, step) {
+        return Err(moved(state, step));
+    }
+    Ok(place)
+}
+
+/// A copy of the state of an open run.
+pub(crate) fn look_up(
+    alloc: Global,
+    places: &[Place],
+    log: &[Event],
+    run: u32,
+) -> Result<Live, Refusal>
+    ensures state { IfOk result (λ state. table_at log.now places.now run ≡ Some (record { state = live_state state; is_open = true })) }
+    ensures refused { IfErr result (λ e. e ≢ Memory → run_refusal (table_at log.now places.now run) ≡ Some e) }
+{
+    let place = find(places, log, run)?;
+    let state = latest(&places[place], log);
+    Ok(state.copy(alloc)?)
+}
