@@ -14,7 +14,8 @@ const NONCE_LEAD: u8 = 0xd0;
 /// The first byte of a counted part.
 const PART_LEAD: u8 = 0xd1;
 
-/// Draws that count: one counter for nonces and parts. Contracts see the counter and the count of faults.
+/// Draws that count: one counter for nonces and parts. The type keeps that none has failed before the counter's end. Contracts see
+/// the counter and the count of faults.
 #[derive(Debug, Drop)]
 pub struct Counted {
     counter: u64,
@@ -22,11 +23,14 @@ pub struct Counted {
 }
 
 impl Model for Counted {
+    ghost use Rattle.std.specs.Prelude.{◌≡◌, ◌<◌, ◌-◌, ◌^◌};
     ghost use Rattle.fresh_values.specs.Counts.{Counts};
 
     ghost Value = { Counts };
 
     ghost view = { λ c. record { place = c.counter; faults = c.faults } };
+
+    ghost invariant = { λ c. c.counter < 2 ^ 64 - 1 → c.faults ≡ 0 };
 }
 
 impl Counted {
@@ -98,11 +102,11 @@ fn part_at(k: u64) -> Part
 
 impl Draws for Counted {
     ghost use Rattle.std.specs.Prelude.{Some};
-    ghost use Rattle.fresh_values.specs.Counts.{counted_value};
+    ghost use Rattle.fresh_values.specs.Counts.{counted_value, failed_draws};
 
     ghost told = { λ c. Some (record { place = c.place; value = counted_value }) };
 
-    ghost fault_count = { λ c. c.faults };
+    ghost fault_count = { failed_draws };
 
     fn faults(&self) -> u64 {
         self.faults

@@ -130,7 +130,7 @@ pub trait RoleState: Stated {
     ///
     /// # Errors
     ///
-    /// `WrongPass` exactly where its role doesn't send the next pass; `DrawFault`, only where the count of faults rose in this
+    /// `WrongPass`, only where its role doesn't send the next pass; `DrawFault`, only where the count of faults rose in this
     /// call; want of memory.
     fn say<S: Sealer, D: Draws>(
         &self,

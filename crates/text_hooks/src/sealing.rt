@@ -1,4 +1,4 @@
-ghost use Rattle.std.specs.Prelude.{◌≡◌, ◌≢◌, ◌≤◌, ◌∷◌, [], true, false, Some, None, IfOk, IfErr, IfSome, is_some, if◌then◌else◌};
+ghost use Rattle.std.specs.Prelude.{◌≡◌, ◌≢◌, ◌≤◌, ◌∷◌, [], true, false, Some, None, IfOk, IfErr, OnErr, IfSome, is_some, if◌then◌else◌};
 ghost use Rattle.outside.specs.Causes.{Rose};
 ghost use Rattle.outside.specs.Told.{nonce_draw, next_draw};
 ghost use Rattle.mech_rows.specs.declared.refusal.Refusal.TheVariants.{Memory, DrawFault};
@@ -15,10 +15,11 @@ use term_values::{Key, Nonce, Term};
 ///
 /// # Errors
 ///
-/// `DrawFault`, only where the count of faults rose in this call.
+/// `DrawFault`, only where the count of faults rose in this call; the draws stay.
 pub fn draw_nonce<D: Draws>(draws: &mut D) -> Result<Nonce, Refusal>
     ensures drawn { IfOk result (λ n. IfSome (D.told draws.old) (λ t. (n ≡ t.value nonce_draw t.place) × (D.told draws.new ≡ Some (next_draw t)))) }
     ensures moved { MovedOn 1 (D.told draws.old) (D.told draws.new) }
+    ensures stays { OnErr result (D.told draws.new ≡ D.told draws.old) }
     ensures later { D.fault_count draws.old ≤ D.fault_count draws.new }
     ensures refused { IfErr result (λ e. (e ≡ DrawFault) × Rose (D.fault_count draws.old) (D.fault_count draws.new)) }
 {
@@ -34,6 +35,7 @@ fn draw_iv<S: Sealer, D: Draws>(sealer: &S, draws: &mut D) -> Result<Option<Nonc
     ensures drawn { IfOk result (λ iv. IfSome (D.told draws.old) (λ t. IfSome iv (λ n. (n ≡ t.value nonce_draw t.place) × (D.told draws.new ≡ Some (next_draw t))))) }
     ensures kept { IfOk result (λ iv. iv ≡ None → D.told draws.new ≡ D.told draws.old) }
     ensures moved { MovedOn 1 (D.told draws.old) (D.told draws.new) }
+    ensures stays { OnErr result (D.told draws.new ≡ D.told draws.old) }
     ensures later { D.fault_count draws.old ≤ D.fault_count draws.new }
     ensures refused { IfErr result (λ e. (e ≡ DrawFault) × Rose (D.fault_count draws.old) (D.fault_count draws.new)) }
 {
