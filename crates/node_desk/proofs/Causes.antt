@@ -31,7 +31,7 @@ use Rattle.node_desk.specs.Helds.{Held}
 use Rattle.node_desk.specs.Openings.{first_of}
 use Rattle.node_desk.specs.Refusals.{run_refusal, refusal_of, stamps_refusal, issue_refusal}
 use Rattle.node_desk.specs.Desks.{DeskView, node_at, run_at}
-use Rattle.node_desk.specs.Deliveries.{after_message, spent_refusal, is_of_stamp, IsEarly, IsUnmade}
+use Rattle.node_desk.specs.Deliveries.{after_message, spent_refusal, is_of_stamp, IsTurnedAway, IsUnmade}
 
 pub some-of : (P : Refusal → Type 0) (o : Option Refusal) (e : Refusal) → IfSome o P → o ≡ Some e → P e
 some-of P o e h is = subst (λ (x : Option Refusal). IfSome x P) is h
@@ -190,7 +190,7 @@ pub run-early : (o : Option Held) (e : Refusal) → run_refusal o ≡ Some e →
 run-early o e is = some-of (λ x. is_late x ≡ false) (run_refusal o) e (run-some o) is
 
 -- what is refused for the run or the message is neither a draw nor a stamp
-pub early : (opens : Key → Tree → Option Tree) (checks : Key → Tree → Tree → Bool) (allowed : Mech → Slot → Bytes → Bool) (d : DeskView) (run : ℕ) (bytes : Bytes) (e : Refusal) → IsEarly opens checks allowed d run bytes e → is_late e ≡ false
+pub early : (opens : Key → Tree → Option Tree) (checks : Key → Tree → Tree → Bool) (allowed : Mech → Slot → Bytes → Bool) (d : DeskView) (run : ℕ) (bytes : Bytes) (e : Refusal) → IsTurnedAway opens checks allowed d run bytes e → is_late e ≡ false
 early opens checks allowed d run bytes e (inl is) = run-early (run_at d run) e is
 early opens checks allowed d run bytes e (inr (s, current, inl h)) = no-spelling bytes e h
 early opens checks allowed d run bytes e (inr (s, current, inr (m, spells, is))) =

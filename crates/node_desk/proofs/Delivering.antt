@@ -26,7 +26,7 @@ use Rattle.node_desk.specs.Events.{log_of}
 use Rattle.node_desk.specs.Helds.{Held, held_at}
 use Rattle.node_desk.specs.Refusals.{IsCurrent, CommitAnswer, stamps_refusal, got_refusal}
 use Rattle.node_desk.specs.Desks.{DeskView, node_of, node_at, run_at, Entered, Untouched, CommitAnswers, IsMadeWith, IsUnused}
-use Rattle.node_desk.specs.Deliveries.{open_in, after_message, IssuedIs, spent_refusal, is_of_stamp, IsUnsaid, IsUnfit, IsUnmade, IsRefused, IsJudged, MayCommit, MadeFor, FirstFor, Delivered}
+use Rattle.node_desk.specs.Deliveries.{open_in, after_message, IssuedIs, spent_refusal, is_of_stamp, IsUnsaid, IsUnfit, IsUnmade, IsRefused, IsStampRefused, MayCommit, MadeFor, FirstFor, Delivered}
 use Rattle.node_desk.proofs.Logs.{node_of-snoc, held_at-snoc}
 use Rattle.node_desk.proofs.Causes.{stamps-late}
 
@@ -201,7 +201,7 @@ module _ (opens : Key → Tree → Option Tree) (checks : Key → Tree → Tree 
   made-refused rose e h =
       inr (step.before, made.message, made.taken, record { current = made.current; spells = made.spells; fits = made.fits }, made.not_spent, ap (got_refusal (node_at old) clock) (sym made.got) ∙ made-stamps (Some e) h)
 
-  pub made-judged : (new : DeskView) (e : Refusal) → Untouched mid new → CommitAnswers mid run step clock (Some e) → IsJudged opens checks allowed iv_of wants told_old told_new old new run bytes clock e
+  pub made-judged : (new : DeskView) (e : Refusal) → Untouched mid new → CommitAnswers mid run step clock (Some e) → IsStampRefused opens checks allowed iv_of wants told_old told_new old new run bytes clock e
   made-judged new e same h =
       record {
         step = step;

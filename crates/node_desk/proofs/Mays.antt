@@ -12,7 +12,7 @@ use Rattle.mech_rows.specs.Rings.{Ring, keys_in}
 use Rattle.mech_rows.specs.Heads.{Head, name_of}
 use Rattle.mech_rows.specs.Openings.{has_parts, uses}
 use Rattle.agreement_laws.specs.Nodes.{Node, MayOpen, knows, serves, open_among, opens_in}
-use Rattle.node_desk.specs.Openings.{are_known, are_mixed, head_refusal, is_full, first_of, opening_by, opening_refusal}
+use Rattle.node_desk.specs.Openings.{are_known, have_wrong_kinds, head_refusal, is_full, first_of, opening_by, opening_refusal}
 
 or-left : (a b : Bool) → (a || b) ≡ false → a ≡ false
 or-left false b e = refl
@@ -64,7 +64,7 @@ parts-there ring h e x y among used =
 pub has-parts : (ring : Ring) (h : Head) → head_refusal ring h ≡ None → has_parts ring h ≡ true
 has-parts ring h e =
     let known = no-some (not (are_known ring h)) _ _ e in
-    let mixed = no-some (are_mixed ring h) _ _ known.1 in
+    let mixed = no-some (have_wrong_kinds ring h) _ _ known.1 in
     let other = no-some (h.a == h.b) _ _ mixed.1 in
     not-false (has_parts ring h) (no-some (not (has_parts ring h)) _ _ other.1).0
 
@@ -73,7 +73,7 @@ may-open node h e =
     let ring = node.ring in
     let parts = no-first (head_refusal ring h) _ e in
     let known = no-some (not (are_known ring h)) _ _ parts.0 in
-    let mixed = no-some (are_mixed ring h) _ _ known.1 in
+    let mixed = no-some (have_wrong_kinds ring h) _ _ known.1 in
     let other = no-some (h.a == h.b) _ _ mixed.1 in
     let full = (no-some (is_full (open_among node.runs (opens_in node.log)) (opens_in node.log)) _ _ parts.1).0 in
     record {

@@ -38,8 +38,8 @@ IssuedIs old new clock None = Untouched old new
 IssuedIs old new clock (Some stamp) = Entered old new (Issue (max (node_at old).now clock) stamp)
 
 -- the desk is as it was, or issued a stamp
-abbrev pub IsIssued : DeskView → DeskView → ℕ → Type 0
-IsIssued old new clock = (stamp : Option Stamp) × IssuedIs old new clock stamp
+abbrev pub MayHaveIssued : DeskView → DeskView → ℕ → Type 0
+MayHaveIssued old new clock = (stamp : Option Stamp) × IssuedIs old new clock stamp
 
 -- the desk issued a stamp exactly where the run needs one for what it says next
 abbrev pub IssuedFor : DeskView → DeskView → ℕ → State → Type 0
@@ -78,8 +78,8 @@ module _ (opens : Key → Tree → Option Tree) (checks : Key → Tree → Tree 
   IsUnfit keys s bytes e = IsNoSpelling bytes e ⊎ ((m : Tree) × IsSpelling m bytes × (run_verdict opens checks allowed keys s m ≡ Err e))
 
   -- why bytes that were given to a run were refused before a stamp was issued
-  abbrev pub IsEarly : DeskView → ℕ → Bytes → Refusal → Type 0
-  IsEarly d run bytes e =
+  abbrev pub IsTurnedAway : DeskView → ℕ → Bytes → Refusal → Type 0
+  IsTurnedAway d run bytes e =
       (run_refusal (run_at d run) ≡ Some e)
       ⊎ ((s : State) × (run_at d run ≡ open_in s) × IsUnfit (keys_in d.ring) s bytes e)
 
@@ -92,7 +92,7 @@ module _ (opens : Key → Tree → Option Tree) (checks : Key → Tree → Tree 
   -- why no step was made of bytes that were given to a run: the first cause that holds, each as the desk was before
   abbrev pub IsUnmade : DeskView → ℕ → Bytes → Type 0 → Refusal → Type 0
   IsUnmade d run bytes rose e =
-      IsEarly d run bytes e
+      IsTurnedAway d run bytes e
       ⊎ ((s : State) × (m : Tree) × (t : Taken) × IsFit d run bytes s m t × IsUnsaid d rose (after_message s t) e)
 
   -- why bytes that were given to a run were refused: the first cause that holds, each as the desk was before
@@ -106,8 +106,8 @@ module _ (opens : Key → Tree → Option Tree) (checks : Key → Tree → Tree 
   HasIssued old new run bytes clock = (s : State) × (m : Tree) × (t : Taken) × IsFit old run bytes s m t × IssuedFor old new clock (after_message s t)
 
   -- where draws are told: they stay; or the bytes fit, and the draws have moved on by no more than the values of the reply
-  abbrev pub HasDrawn : DeskView → ℕ → Bytes → Option Told → Option Told → Type 0
-  HasDrawn d run bytes told_old told_new =
+  abbrev pub HasMovedDraws : DeskView → ℕ → Bytes → Option Told → Option Told → Type 0
+  HasMovedDraws d run bytes told_old told_new =
       (told_new ≡ told_old)
       ⊎ ((s : State) × (m : Tree) × (t : Taken) × IsFit d run bytes s m t × MovedOn (most_drawn (after_message s t)) told_old told_new)
 
@@ -140,7 +140,7 @@ module _ (opens : Key → Tree → Option Tree) (checks : Key → Tree → Tree 
     pub replied : reply ≡ step.reply
 
   -- a step was made of these bytes, and a stamp that it received was refused
-  pub record IsJudged (iv_of : Tree → Option Bytes) (wants : Bool) (told_old told_new : Option Told) (old new : DeskView) (run : ℕ) (bytes : Bytes) (clock : ℕ) (e : Refusal) : Type 0 where
+  pub record IsStampRefused (iv_of : Tree → Option Bytes) (wants : Bool) (told_old told_new : Option Told) (old new : DeskView) (run : ℕ) (bytes : Bytes) (clock : ℕ) (e : Refusal) : Type 0 where
     pub step : Move
     pub made : MadeFor iv_of wants told_old told_new old new run bytes clock step
     pub refused : got_refusal (node_at old) clock step.got ≡ Some e
@@ -156,8 +156,8 @@ abbrev pub HasIssuedFirst : DeskView → DeskView → ℕ → ℕ → Type 0
 HasIssuedFirst old new run clock = (s : State) × (run_at old run ≡ open_in s) × (sends_first s ≡ true) × IssuedFor old new clock s
 
 -- where draws are told: they stay; or the run says its first message now, and the draws have moved on by no more than its values
-abbrev pub HasDrawnFirst : DeskView → ℕ → Option Told → Option Told → Type 0
-HasDrawnFirst d run told_old told_new =
+abbrev pub HasMovedDrawsFirst : DeskView → ℕ → Option Told → Option Told → Type 0
+HasMovedDrawsFirst d run told_old told_new =
     (told_new ≡ told_old)
     ⊎ ((s : State) × (run_at d run ≡ open_in s) × (sends_first s ≡ true) × MovedOn (most_drawn s) told_old told_new)
 

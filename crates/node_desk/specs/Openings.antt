@@ -14,14 +14,14 @@ abbrev pub are_known : Ring → Head → Bool
 are_known ring h = knows ring h.a && (knows ring h.b && (if has_third h.mech then knows ring (name_of h P) else true))
 
 -- A or B is a third party, or the third party is none
-abbrev pub are_mixed : Ring → Head → Bool
-are_mixed ring h = serves ring h.a || (serves ring h.b || (if has_third h.mech then not (serves ring (name_of h P)) else false))
+abbrev pub have_wrong_kinds : Ring → Head → Bool
+have_wrong_kinds ring h = serves ring h.a || (serves ring h.b || (if has_third h.mech then not (serves ring (name_of h P)) else false))
 
 -- what the ring says against a run: an unknown name, a party of the wrong kind, the own peer, or a part that is missing
 abbrev pub head_refusal : Ring → Head → Option Refusal
 head_refusal ring h =
     if not (are_known ring h) then Some UnknownParty
-    else if are_mixed ring h then Some WrongKind
+    else if have_wrong_kinds ring h then Some WrongKind
     else if h.a == h.b then Some SelfPeer
     else if not (has_parts ring h) then Some NoKey
     else None

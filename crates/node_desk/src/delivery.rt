@@ -6,7 +6,7 @@ ghost use Rattle.text_hooks.specs.Rules.{allowed};
 ghost use Rattle.node_desk.specs.declared.event.Event.TheVariants.{Commit};
 ghost use Rattle.node_desk.specs.Events.{log_of};
 ghost use Rattle.node_desk.specs.Desks.{node_at, Entered, Untouched, CommitAnswers, IsMadeWith, IsUnused};
-ghost use Rattle.node_desk.specs.Deliveries.{IsIssued, HasIssued, HasIssuedFirst, IsRefused, IsFirstRefused, IsJudged, HasDrawn, HasDrawnFirst, Delivered, Started, is_of_stamp};
+ghost use Rattle.node_desk.specs.Deliveries.{MayHaveIssued, HasIssued, HasIssuedFirst, IsRefused, IsFirstRefused, IsStampRefused, HasMovedDraws, HasMovedDrawsFirst, Delivered, Started, is_of_stamp};
 
 use crate::commit::given_up;
 use crate::desk::Desk;
@@ -93,12 +93,12 @@ pub fn deliver<T: Store, S: Sealer, D: Draws>(
 ) -> Result<Option<Term>, Refusal>
     ensures ok { IfOk result (λ reply. Delivered S.opens S.checks (allowed hook.now.rules.items) S.iv_of (S.wants_iv sealer.now) (D.told draws.old) (D.told draws.new) desk.old desk.new run bytes.now clock reply) }
     ensures refused { IfErr result (λ e. e ≢ Memory → IsRefused S.opens S.checks (allowed hook.now.rules.items) desk.old run bytes.now clock (Rose (D.fault_count draws.old) (D.fault_count draws.new)) e) }
-    ensures err { OnErr result (IsIssued desk.old desk.new clock) }
+    ensures err { OnErr result (MayHaveIssued desk.old desk.new clock) }
     ensures stays { IfErr result (λ e. e ≢ Memory → e ≢ DrawFault → is_of_stamp e ≡ false → Untouched desk.old desk.new) }
     ensures undrawn { IfErr result (λ e. e ≢ Memory → e ≢ DrawFault → is_of_stamp e ≡ false → draws.new ≡ draws.old) }
     ensures faulted { IfErr result (λ e. e ≡ DrawFault → HasIssued S.opens S.checks (allowed hook.now.rules.items) desk.old desk.new run bytes.now clock) }
-    ensures judged { IfErr result (λ e. is_of_stamp e ≡ true → IsJudged S.opens S.checks (allowed hook.now.rules.items) S.iv_of (S.wants_iv sealer.now) (D.told draws.old) (D.told draws.new) desk.old desk.new run bytes.now clock e) }
-    ensures moved { HasDrawn S.opens S.checks (allowed hook.now.rules.items) desk.old run bytes.now (D.told draws.old) (D.told draws.new) }
+    ensures judged { IfErr result (λ e. is_of_stamp e ≡ true → IsStampRefused S.opens S.checks (allowed hook.now.rules.items) S.iv_of (S.wants_iv sealer.now) (D.told draws.old) (D.told draws.new) desk.old desk.new run bytes.now clock e) }
+    ensures moved { HasMovedDraws S.opens S.checks (allowed hook.now.rules.items) desk.old run bytes.now (D.told draws.old) (D.told draws.new) }
     ensures later { D.fault_count draws.old ≤ D.fault_count draws.new }
 {
     let step = make_step(alloc, desk, sealer, hook, draws, run, bytes, clock)?;
@@ -124,11 +124,11 @@ pub fn start<T: Store, S: Sealer, D: Draws>(
 ) -> Result<Term, Refusal>
     ensures ok { IfOk result (λ message. Started S.opens S.checks S.iv_of (S.wants_iv sealer.now) (D.told draws.old) (D.told draws.new) desk.old desk.new run clock message) }
     ensures refused { IfErr result (λ e. e ≢ Memory → IsFirstRefused desk.old run (Rose (D.fault_count draws.old) (D.fault_count draws.new)) e) }
-    ensures err { OnErr result (IsIssued desk.old desk.new clock) }
+    ensures err { OnErr result (MayHaveIssued desk.old desk.new clock) }
     ensures stays { IfErr result (λ e. e ≢ Memory → e ≢ DrawFault → Untouched desk.old desk.new) }
     ensures undrawn { IfErr result (λ e. e ≢ Memory → e ≢ DrawFault → draws.new ≡ draws.old) }
     ensures faulted { IfErr result (λ e. e ≡ DrawFault → HasIssuedFirst desk.old desk.new run clock) }
-    ensures moved { HasDrawnFirst desk.old run (D.told draws.old) (D.told draws.new) }
+    ensures moved { HasMovedDrawsFirst desk.old run (D.told draws.old) (D.told draws.new) }
     ensures later { D.fault_count draws.old ≤ D.fault_count draws.new }
 {
     let step = make_first(alloc, desk, sealer, draws, run, clock)?;

@@ -17,7 +17,7 @@ ghost use Rattle.node_desk.specs.Events.{log_of};
 ghost use Rattle.node_desk.specs.Lives.{live_state};
 ghost use Rattle.node_desk.specs.Refusals.{run_refusal};
 ghost use Rattle.node_desk.specs.Desks.{run_at, Untouched, IsUnused};
-ghost use Rattle.node_desk.specs.Deliveries.{open_in, IssuedIs, IsIssued, HasIssued, HasIssuedFirst, IsUnfit, IsEarly, IsUnmade, IsFirstRefused, HasDrawn, HasDrawnFirst, MadeFor, FirstFor, most_drawn, spent_refusal};
+ghost use Rattle.node_desk.specs.Deliveries.{open_in, IssuedIs, MayHaveIssued, HasIssued, HasIssuedFirst, IsUnfit, IsTurnedAway, IsUnmade, IsFirstRefused, HasMovedDraws, HasMovedDrawsFirst, MadeFor, FirstFor, most_drawn, spent_refusal};
 
 use crate::commit::given_up;
 use crate::desk::Desk;
@@ -78,7 +78,7 @@ fn prepared_for<T: Store, S: Sealer>(
     ensures parts { IfOk result (λ p. has_parts desk.now.ring p.before.head ≡ true) }
     ensures fit { IfOk result (λ p. run_verdict S.opens S.checks (allowed hook.now.rules.items) (keys_in desk.now.ring) p.before p.taken ≡ Ok (record { notes = p.after.notes; opened = p.opened; got = p.got })) }
     ensures fitted { IfOk result (Fitted S.opens S.checks (keys_in desk.now.ring)) }
-    ensures refused { IfErr result (λ e. e ≢ Memory → IsEarly S.opens S.checks (allowed hook.now.rules.items) desk.now run bytes.now e) }
+    ensures refused { IfErr result (λ e. e ≢ Memory → IsTurnedAway S.opens S.checks (allowed hook.now.rules.items) desk.now run bytes.now e) }
 {
     let state = desk.look(run)?;
     prepared_by(alloc, state, sealer, desk.ring(), hook, bytes)
@@ -142,11 +142,11 @@ pub fn make_step<T: Store, S: Sealer, D: Draws>(
 ) -> Result<Step<Live>, Refusal>
     ensures ok { IfOk result (λ step. MadeFor S.opens S.checks (allowed hook.now.rules.items) S.iv_of (S.wants_iv sealer.now) (D.told draws.old) (D.told draws.new) desk.old desk.new run bytes.now clock step) }
     ensures refused { IfErr result (λ e. e ≢ Memory → IsUnmade S.opens S.checks (allowed hook.now.rules.items) desk.old run bytes.now (Rose (D.fault_count draws.old) (D.fault_count draws.new)) e) }
-    ensures err { OnErr result (IsIssued desk.old desk.new clock) }
+    ensures err { OnErr result (MayHaveIssued desk.old desk.new clock) }
     ensures stays { IfErr result (λ e. e ≢ Memory → e ≢ DrawFault → Untouched desk.old desk.new) }
     ensures undrawn { IfErr result (λ e. e ≢ Memory → e ≢ DrawFault → draws.new ≡ draws.old) }
     ensures faulted { IfErr result (λ e. e ≡ DrawFault → HasIssued S.opens S.checks (allowed hook.now.rules.items) desk.old desk.new run bytes.now clock) }
-    ensures moved { HasDrawn S.opens S.checks (allowed hook.now.rules.items) desk.old run bytes.now (D.told draws.old) (D.told draws.new) }
+    ensures moved { HasMovedDraws S.opens S.checks (allowed hook.now.rules.items) desk.old run bytes.now (D.told draws.old) (D.told draws.new) }
     ensures later { D.fault_count draws.old ≤ D.fault_count draws.new }
 {
     let prepared = prepared_for(alloc, desk, sealer, hook, run, bytes)?;
@@ -217,11 +217,11 @@ pub fn make_first<T: Store, S: Sealer, D: Draws>(
 ) -> Result<Step<Live>, Refusal>
     ensures ok { IfOk result (λ step. FirstFor S.opens S.checks S.iv_of (S.wants_iv sealer.now) (D.told draws.old) (D.told draws.new) desk.old desk.new run clock step) }
     ensures refused { IfErr result (λ e. e ≢ Memory → IsFirstRefused desk.old run (Rose (D.fault_count draws.old) (D.fault_count draws.new)) e) }
-    ensures err { OnErr result (IsIssued desk.old desk.new clock) }
+    ensures err { OnErr result (MayHaveIssued desk.old desk.new clock) }
     ensures stays { IfErr result (λ e. e ≢ Memory → e ≢ DrawFault → Untouched desk.old desk.new) }
     ensures undrawn { IfErr result (λ e. e ≢ Memory → e ≢ DrawFault → draws.new ≡ draws.old) }
     ensures faulted { IfErr result (λ e. e ≡ DrawFault → HasIssuedFirst desk.old desk.new run clock) }
-    ensures moved { HasDrawnFirst desk.old run (D.told draws.old) (D.told draws.new) }
+    ensures moved { HasMovedDrawsFirst desk.old run (D.told draws.old) (D.told draws.new) }
     ensures later { D.fault_count draws.old ≤ D.fault_count draws.new }
 {
     let state = starting(desk, run)?;

@@ -5,7 +5,7 @@ ghost use Rattle.mech_rows.specs.Rings.{Peer as PeerOf, keys_in};
 ghost use Rattle.mech_rows.specs.Heads.{IsHead};
 ghost use Rattle.mech_rows.specs.Openings.{has_parts as ring_has_parts};
 ghost use Rattle.agreement_laws.specs.Nodes.{knows as ring_knows, serves as ring_serves};
-ghost use Rattle.node_desk.specs.Openings.{are_known, are_mixed, head_refusal as refusal_by_ring, opening_by};
+ghost use Rattle.node_desk.specs.Openings.{are_known, have_wrong_kinds, head_refusal as refusal_by_ring, opening_by};
 
 use mech_rows::{Peer, Refusal, Ring, Role, RunHead};
 use term_values::{Name, Part};
@@ -87,8 +87,8 @@ fn knows_all(ring: &Ring, head: &RunHead) -> bool
 }
 
 /// Whether A or B is a third party, or the third party is none.
-fn is_mixed(ring: &Ring, head: &RunHead) -> bool
-    ensures { result ≡ are_mixed ring.now head.now }
+fn has_wrong_kinds(ring: &Ring, head: &RunHead) -> bool
+    ensures { result ≡ have_wrong_kinds ring.now head.now }
 {
     serves(ring, head.a)
         || serves(ring, head.b)
@@ -103,7 +103,7 @@ fn head_refusal(ring: &Ring, head: &RunHead) -> Option<Refusal>
 {
     if !knows_all(ring, head) {
         Some(Refusal::UnknownParty)
-    } else if is_mixed(ring, head) {
+    } else if has_wrong_kinds(ring, head) {
         Some(Refusal::WrongKind)
     } else if head.a == head.b {
         Some(Refusal::SelfPeer)
