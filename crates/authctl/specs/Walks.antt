@@ -1,5 +1,5 @@
 -- What the undisturbed run of a mechanism of two parties sends, and what a walk prints of it.
-use Rattle.std.specs.Prelude.{◌≡◌, ℕ, suc, ◌+◌, Bool, true, false, List, [], ◌∷◌, ◌++◌, length, codes, Option, Some, None, if◌then◌else◌}
+use Rattle.std.specs.Prelude.{ℕ, suc, ◌+◌, Bool, true, false, List, [], ◌∷◌, ◌++◌, length, codes, Option, Some, None, if◌then◌else◌}
 use Rattle.std.specs.Fmt.{decimal}
 use Rattle.std.specs.Int.{bytes_high_first}
 use Rattle.hex.specs.Hex.{encode_lower}
@@ -8,7 +8,6 @@ use Rattle.term_values.specs.Trees as term
 use Rattle.term_values.specs.declared.Stamp.TheVariants.{Time}
 use Rattle.tagged_codec.specs.Grammar.{spelling}
 use Rattle.mech_rows.specs.declared.Mech.{Mech}
-use Rattle.mech_rows.specs.declared.Mech.TheVariants.{E2}
 use Rattle.mech_rows.specs.declared.Role.{Role}
 use Rattle.mech_rows.specs.declared.Slot.{Slot}
 use Rattle.mech_rows.specs.declared.Kind.{Kind}
@@ -94,7 +93,7 @@ messages_from m w k (p ∷ ps) = message (walk_keys w) (walk_head m w p.from) (w
 
 -- the messages of the walk
 abbrev pub walk_messages : Walk → List Tree
-walk_messages w = messages_from E2 w 0 (row_of E2)
+walk_messages w = messages_from w.mech w 0 (row_of w.mech)
 
 -- a message by its number and the digits of its spelling
 abbrev pub message_line : ℕ → Bytes → Bytes
@@ -111,4 +110,4 @@ lines_before rest k (t ∷ ts) = message_line k (spelling t) ++ lines_before res
 
 -- what a walk prints: its messages in order, and their number
 abbrev pub walk_output : Walk → Bytes
-walk_output w = lines_before (passes_line (length (row_of E2))) 1 (walk_messages w)
+walk_output w = lines_before (passes_line (length (row_of w.mech))) 1 (walk_messages w)

@@ -1,13 +1,14 @@
 -- The words of the command line.
-use Rattle.std.specs.Prelude.{◌≡◌, ◌≢◌, ℕ, ◌^◌, ◌<◌, List, [], ◌∷◌, length, get_or, map, codes}
+use Rattle.std.specs.Prelude.{◌≡◌, ◌≢◌, ℕ, ◌^◌, ◌<◌, true, List, [], ◌∷◌, length, get_or, map, codes}
 use Rattle.std.specs.Fmt.{decimal}
 use Rattle.std.specs.Global.{Vec}
 use Rattle.hex.specs.Hex.{IsBytes, encode_lower}
+use Rattle.script_text.specs.Lines.{is_offered, mech_name}
 use Rattle.authctl.specs.declared.words.Walk.{Walk}
 
 -- the words that ask for this walk: names in decimal, the part in hexadecimal digits in lower case
 abbrev pub walk_words : Walk → List (List ℕ)
-walk_words w = codes "walk" ∷ codes "E2" ∷ decimal w.a ∷ decimal w.b ∷ encode_lower w.part ∷ []
+walk_words w = codes "walk" ∷ mech_name w.mech ∷ decimal w.a ∷ decimal w.b ∷ encode_lower w.part ∷ []
 
 -- a party's name
 pub record IsName (n : ℕ) : Type 0 where
@@ -21,8 +22,9 @@ pub record IsGivenPart (part : List ℕ) : Type 0 where
   pub no_nonce : get_or part 0 0 ≢ 0xd0
   pub no_part : get_or part 0 0 ≢ 0xd1
 
--- the walk has two names that differ and a part of its own
+-- the walk is of a mechanism that scripts may name, has two names that differ and a part of its own
 pub record IsPlan (w : Walk) : Type 0 where
+  pub offered : is_offered w.mech ≡ true
   pub a : IsName w.a
   pub b : IsName w.b
   pub differ : w.a ≢ w.b

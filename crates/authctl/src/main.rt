@@ -1,4 +1,4 @@
-//! The command line: one undisturbed run, from the words to the printed messages.
+//! The command line: undisturbed runs, from the words to the printed messages.
 #![tactic(auto)]
 
 mod offline;
@@ -41,7 +41,7 @@ fn status_of(error: &io::Error) -> u8 {
 /// What a status means, for a person.
 fn reason(status: u8) -> &'static str {
     match status {
-        NO_COMMAND => "usage: authctl walk E2 A B PART",
+        NO_COMMAND => "usage: authctl walk MECH A B PART",
         WRITE_FAILED => "authctl: standard output couldn't be written",
         _ => "authctl: there isn't enough memory",
     }

@@ -34,7 +34,7 @@ fn write_text<O: Sink>(out: &mut O, text: &[u8]) -> u8
     }
 }
 
-/// The top call for the commands that talk to nobody. Today that is one: `walk E2 A B PART`.
+/// The top call for the commands that talk to nobody. Today that is one: `walk MECH A B PART`.
 ///
 /// Status 0: the whole output was written. 2: the words are no command, and nothing was written. 4: a write
 /// failed, and a front of the output was written. 7: memory was wanting, and a front of the output was written.

@@ -10,8 +10,41 @@ use std::test::Fail;
 
 const PART: &str = "1111111111111111111111111111111111111111111111111111111111111111";
 
-const OUTPUT: &str =
-    "message 1 0803070102010004d0000000000000000000000000000000060000\nmessage 2 08030701020200060000090b1111111111111111111111111111111111111111111111111111111111111111080507010202010100000001010000000204d0000000000000000000000000000000060000\npasses 2\n";
+/// What the walk of each mechanism writes, with PART for its part.
+const OUTPUTS: [(&str, &str); 8] = [
+    (
+        "E1",
+        "message 1 08030701010100060000090bPART08050701010101010000000101000000020200000000000003e8060000\npasses 1\n",
+    ),
+    (
+        "E2",
+        "message 1 0803070102010004d0000000000000000000000000000000060000\nmessage 2 08030701020200060000090bPART080507010202010100000001010000000204d0000000000000000000000000000000060000\npasses 2\n",
+    ),
+    (
+        "E3",
+        "message 1 08030701030100060000090bPART08050701030101010000000101000000020200000000000003e8060000\nmessage 2 08030701030200060000090bPART08050701030201010000000101000000020200000000000003e8060000\npasses 2\n",
+    ),
+    (
+        "E4",
+        "message 1 0803070104010004d0000000000000000000000000000000060000\nmessage 2 08030701040200060000090bPART080607010402010100000001010000000204d000000000000000000000000000000104d0000000000000000000000000000000060000\nmessage 3 08030701040300060000090bPART080607010403010100000001010000000204d000000000000000000000000000000004d0000000000000000000000000000001060000\npasses 3\n",
+    ),
+    (
+        "C1",
+        "message 1 080507020101000200000000000003e80600000600000a0bPART08050702010101010000000101000000020200000000000003e8060000\npasses 1\n",
+    ),
+    (
+        "C2",
+        "message 1 0803070202010004d0000000000000000000000000000000060000\nmessage 2 080407020202000600000600000a0bPART080507020202010100000001010000000204d0000000000000000000000000000000060000\npasses 2\n",
+    ),
+    (
+        "C3",
+        "message 1 080507020301000200000000000003e80600000600000a0bPART08050702030101010000000101000000020200000000000003e8060000\nmessage 2 080507020302000200000000000003e80600000600000a0bPART08050702030201010000000101000000020200000000000003e8060000\npasses 2\n",
+    ),
+    (
+        "C4",
+        "message 1 0803070204010004d0000000000000000000000000000000060000\nmessage 2 0805070204020004d00000000000000000000000000000010600000600000a0bPART080607020402010100000001010000000204d000000000000000000000000000000104d0000000000000000000000000000000060000\nmessage 3 080407020403000600000600000a0bPART080607020403010100000001010000000204d000000000000000000000000000000004d0000000000000000000000000000001060000\npasses 3\n",
+    ),
+];
 
 /// The words of a line, split at each blank.
 fn words_of(alloc: Global, line: &str) -> Result<Vec<Vec<u8>>, Fail> {
@@ -31,17 +64,20 @@ fn run(alloc: Global, words: &Vec<Vec<u8>>) -> (u8, SureSink) {
 }
 
 #[test]
-fn an_undisturbed_walk(rt: HostRuntime) -> Result<(), Fail> {
+fn undisturbed_walks(rt: HostRuntime) -> Result<(), Fail> {
     let alloc = rt.alloc();
-    let line = format!(in alloc; "walk E2 1 2 {PART}")?;
-    let (status, out) = run(alloc, &words_of(alloc, line.as_str())?);
-    assert_eq!(rt; status, 0);
-    assert!(rt; out.written() == OUTPUT.as_bytes());
-    let greatest = format!(in alloc; "walk E2 4294967295 1 {PART}")?;
-    let (status, out) = run(alloc, &words_of(alloc, greatest.as_str())?);
-    assert_eq!(rt; status, 0);
-    let changed = OUTPUT.replace(alloc, "01000000010100000002", "01ffffffff0100000001")?;
-    assert!(rt; out.written() == changed.as_bytes());
+    for (mech, output) in OUTPUTS {
+        let output = output.replace(alloc, "PART", PART)?;
+        let line = format!(in alloc; "walk {mech} 1 2 {PART}")?;
+        let (status, out) = run(alloc, &words_of(alloc, line.as_str())?);
+        assert_eq!(rt; status, 0, "{mech}");
+        assert!(rt; out.written() == output.as_bytes(), "{mech}");
+        let greatest = format!(in alloc; "walk {mech} 4294967295 1 {PART}")?;
+        let (status, out) = run(alloc, &words_of(alloc, greatest.as_str())?);
+        assert_eq!(rt; status, 0, "{mech}");
+        let changed = output.replace(alloc, "01000000010100000002", "01ffffffff0100000001")?;
+        assert!(rt; out.written() == changed.as_bytes(), "{mech}");
+    }
     Ok(())
 }
 
@@ -70,7 +106,10 @@ fn words_that_are_no_command(rt: HostRuntime) -> Result<(), Fail> {
         "walk E2 1 2 d111111111111111111111111111111111111111111111111111111111111111",
         "walk E2 1 2 g111111111111111111111111111111111111111111111111111111111111111",
         "walk E7 1 2 PART",
-        "walk E1 1 2 PART",
+        "walk E5 1 2 PART",
+        "walk K3 1 2 PART",
+        "walk E5 1 2 9 PART PART",
+        "walk P 1 2 PART",
         "walk e2 1 2 PART",
         "Walk E2 1 2 PART",
         "replay",

@@ -1,13 +1,17 @@
 ghost use Rattle.std.specs.Prelude.{◌≡◌, ◌≢◌, ◌≤◌, ℕ, List, get_or, length, IsNone, IfSome, IsTrue, ◌↔◌, [], ◌∷◌};
 ghost use Rattle.std.specs.Fmt.{decimal};
 ghost use Rattle.hex.specs.Hex.{IsBytes, encode_lower};
+ghost use Rattle.script_text.specs.LineReading.{mech_in};
 ghost use Rattle.authctl.specs.Words.{IsGivenPart, IsName, IsPlan, IsWalk, walk_words, word_lists};
 
+use mech_rows::Mech;
 use term_values::{Name, Part};
 
-/// A walk: an undisturbed run of the two-pass mechanism by nonce and encipherment.
+/// A walk: an undisturbed run of a mechanism without a third party.
 #[derive(Clone, Copy, Debug, PartialEq, Eq)]
 pub struct Walk {
+    /// The mechanism: one of E1 to E4 and C1 to C4.
+    pub mech: Mech,
     /// The claimant.
     pub a: Name,
     /// The verifier.
@@ -94,22 +98,54 @@ fn read_part(word: &[u8]) -> Option<Part>
     Some(Part(bytes))
 }
 
+/// The mechanism of that name, where it is one of those that walks may have.
+fn read_mech(word: &[u8]) -> Option<Mech>
+    ensures { result ≡ mech_in word.now }
+{
+    if word == b"E1".as_slice() {
+        return Some(Mech::E1);
+    }
+    if word == b"E2".as_slice() {
+        return Some(Mech::E2);
+    }
+    if word == b"E3".as_slice() {
+        return Some(Mech::E3);
+    }
+    if word == b"E4".as_slice() {
+        return Some(Mech::E4);
+    }
+    if word == b"C1".as_slice() {
+        return Some(Mech::C1);
+    }
+    if word == b"C2".as_slice() {
+        return Some(Mech::C2);
+    }
+    if word == b"C3".as_slice() {
+        return Some(Mech::C3);
+    }
+    if word == b"C4".as_slice() {
+        return Some(Mech::C4);
+    }
+    None
+}
+
 /// The walk that five words ask for.
 fn read_five(command: &[u8], mech: &[u8], a: &[u8], b: &[u8], part: &[u8]) -> Option<Walk>
     ensures plan { IfSome result IsPlan }
     ensures some { IfSome result (λ w. command.now ∷ mech.now ∷ a.now ∷ b.now ∷ part.now ∷ [] ≡ walk_words w) }
     ensures none { IsNone result → (w : Walk) → IsPlan w → command.now ∷ mech.now ∷ a.now ∷ b.now ∷ part.now ∷ [] ≢ walk_words w }
 {
-    if command != b"walk".as_slice() || mech != b"E2".as_slice() {
+    if command != b"walk".as_slice() {
         return None;
     }
+    let mech = read_mech(mech)?;
     let a = read_name(a)?;
     let b = read_name(b)?;
     if a == b {
         return None;
     }
     let part = read_part(part)?;
-    Some(Walk { a, b, part })
+    Some(Walk { mech, a, b, part })
 }
 
 /// The walk that the words ask for; None where they are no command.

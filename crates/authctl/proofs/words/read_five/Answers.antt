@@ -1,6 +1,17 @@
 use Rattle.std.proofs.Common.{◌≡◌, sym, ◌∙◌, ap, get_or, List, ℕ, [], arith, rules}
 use Rattle.std.proofs.lemmas.Fmt.{decimal_injective}
+use Rattle.script_text.specs.LineReading.{mech_in}
+use Rattle.script_text.proofs.LineAgain.{mech_in_is}
 use Rattle.authctl.proofs.words.read_five.Goals as goal
+
+-- the word is the name of no mechanism that walks may have
+pub returns-in_err-mech-clause-none : goal.returns-in_err-mech-clause-none
+returns-in_err-mech-clause-none c = λ _ w plan e.
+    let named = ap (λ (l : List (List ℕ)). mech_in (get_or l 1 [])) e in
+    let found = mech_in_is w.mech plan.offered in
+    let none = c.read_mech.ensures in
+    let was = c.in_err-mech.was in
+    absurd cc
 
 pub returns-then-eq-clause-none : goal.returns-then-eq-clause-none
 returns-then-eq-clause-none c = λ _ w plan e.
