@@ -102,7 +102,7 @@ abbrev pub given : Ready → Taken
 given p = record { notes = p.after.notes; opened = p.opened; got = p.got }
 
 -- a message that fits leads to the state after it
-after-is : (opens : Key → Tree → Option Tree) (checks : Key → Tree → Tree → Bool) (keys : Keys) (p : Ready) → Fitted opens checks keys p → p.after ≡ after_message p.before (given p)
+pub after-is : (opens : Key → Tree → Option Tree) (checks : Key → Tree → Tree → Bool) (keys : Keys) (p : Ready) → Fitted opens checks keys p → p.after ≡ after_message p.before (given p)
 after-is opens checks keys p fitted = λ i. record { head = fitted.same_head i; next = fitted.moves i; notes = p.after.notes }
 
 -- a step that the desk may commit, as it stands after a stamp was issued

@@ -8,6 +8,9 @@ pub mod Bounds
 pub mod Stamped
 pub mod Used
 pub mod Parts
+pub mod Needed
+pub mod Rooms
+pub mod Sealings
 pub mod Kept
 pub mod Answered
 pub mod Found
@@ -16,3 +19,4 @@ pub mod Delivering
 pub mod Suited
 pub mod Keyed
 pub mod OneKey
+pub mod Dues

@@ -1,11 +1,12 @@
 -- One more event at the end of a log.
-use Rattle.std.proofs.Common.{◌≡◌, ◌==◌, ℕ, List, [], ◌∷◌, ◌++◌, map, reverse, Bool, true, false, if◌then◌else◌, Option, Some, None, refl, sym, ap, subst, ◌∙◌}
+use Rattle.std.proofs.Common.{◌≡◌, ◌==◌, ◌⊎◌, ℕ, List, [], ◌∷◌, ◌++◌, map, reverse, Bool, true, false, if◌then◌else◌, Option, Some, None, refl, sym, ap, subst, ◌∙◌, inl, inr}
 use Rattle.std.proofs.lemmas.List.{reverse-append}
-use Rattle.term_values.specs.Trees.{Tree}
-use Rattle.term_values.specs.declared.small.Key.{Key}
+use Rattle.term_values.specs.Trees.{Among}
+use Rattle.term_values.proofs.Lists.{among_append}
 use Rattle.mech_rows.specs.Heads.{Head}
-use Rattle.mech_rows.specs.Rings.{Ring, keys_in}
-use Rattle.mech_rows.specs.Lawful.{tested_by}
+use Rattle.mech_rows.specs.Rings.{Ring}
+use Rattle.mech_rows.specs.Runs.{Keys}
+use Rattle.mech_rows.specs.Moves.{Move}
 use Rattle.mech_rows.specs.Openings.{Texts, opened_run, opened_state}
 use Rattle.mech_rows.specs.Verdict.{run_of}
 use Rattle.agreement_laws.specs.Nodes.{Standing, new_node, node_after, changed, Needs, IsLegal, ended}
@@ -14,7 +15,7 @@ use Rattle.node_desk.specs.declared.event.Event.{Event}
 use Rattle.node_desk.specs.declared.event.Event.TheVariants.{Open, Issue, Commit, Drop, Restart}
 use Rattle.node_desk.specs.Events.{event_of, log_of}
 use Rattle.node_desk.specs.Helds.{Held, no_longer, held_by, held_at}
-use Rattle.node_desk.specs.Desks.{node_of, IsStepEvent, AreSteps, IsLegalLog}
+use Rattle.node_desk.specs.Desks.{node_of, any_sealing, IsWholeLog, IsMadeWith, AreMadeWith}
 use Rattle.node_desk.proofs.Opened.{opened_is}
 
 pub reverse-snoc : (log : List Event) (event : Event) → reverse (log ++ event ∷ []) ≡ event ∷ reverse log
@@ -36,12 +37,17 @@ pub node_log : (ring : Ring) (first : ℕ) (log : List Event) → (node_of ring 
 node_log ring first log = log_is (new_node ring first) refl (log_of log)
 
 -- a legal log stays legal by an event that has what it needs
-pub legal-snoc : (ring : Ring) (first : ℕ) (log : List Event) (event : Event) → IsLegalLog ring first log
-    → ((opens : Key → Tree → Option Tree) (checks : Key → Tree → Tree → Bool) → IsStepEvent (tested_by opens checks) (keys_in ring) event → Needs (tested_by opens checks) (node_of ring first log) (event_of event))
-    → IsLegalLog ring first (log ++ event ∷ [])
-legal-snoc ring first log event legal needs opens checks steps =
-    let parts : AreSteps (tested_by opens checks) (keys_in ring) (event ∷ reverse log) = subst (AreSteps (tested_by opens checks) (keys_in ring)) (reverse-snoc log event) steps in
-    subst (IsLegal (tested_by opens checks) (new_node ring first)) (sym (log_of-snoc log event)) (legal opens checks parts.1, (needs opens checks parts.0, refl))
+pub whole-snoc : (ring : Ring) (first : ℕ) (log : List Event) (event : Event) → IsWholeLog ring first log → Needs any_sealing (node_of ring first log) (event_of event) → IsWholeLog ring first (log ++ event ∷ [])
+whole-snoc ring first log event whole needs = subst (IsLegal any_sealing (new_node ring first)) (sym (log_of-snoc log event)) (whole, (needs, refl))
+
+-- the steps of commits stay made with the keys by an event that is no other commit
+pub made-snoc : (keys : Keys) (log : List Event) (event : Event) → AreMadeWith keys log → ((run now : ℕ) (step : Move) → Commit run now step ≡ event → IsMadeWith keys step) → AreMadeWith keys (log ++ event ∷ [])
+made-snoc keys log event all last run now step i = go (among_append log (event ∷ []) (Commit run now step) i)
+  where
+    go : Among (Commit run now step) log ⊎ Among (Commit run now step) (event ∷ []) → IsMadeWith keys step
+    go (inl j) = all run now step j
+    go (inr (inl e)) = last run now step e
+    go (inr (inr j)) = elim j [ ]
 
 -- a run that is held, as it stands at the node
 abbrev pub standing : Option Held → Option Standing

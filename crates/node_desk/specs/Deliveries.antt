@@ -22,7 +22,7 @@ use Rattle.node_desk.specs.declared.event.Event.TheVariants.{Issue, Commit}
 use Rattle.node_desk.specs.Events.{log_of}
 use Rattle.node_desk.specs.Helds.{Held}
 use Rattle.node_desk.specs.Refusals.{run_refusal, issue_refusal, got_refusal}
-use Rattle.node_desk.specs.Desks.{DeskView, node_at, run_at, Entered, Untouched, IsMadeWith, IsUnused}
+use Rattle.node_desk.specs.Desks.{DeskView, node_at, run_at, Entered, Untouched, IsMadeWith, IsUnused, due_stamp}
 
 -- an open run in that state
 abbrev pub open_in : State → Option Held
@@ -44,6 +44,15 @@ MayHaveIssued old new clock = (stamp : Option Stamp) × IssuedIs old new clock s
 -- the desk issued a stamp exactly where the run needs one for what it says next
 abbrev pub IssuedFor : DeskView → DeskView → ℕ → State → Type 0
 IssuedFor old new clock s = (stamp : Option Stamp) × (is_some stamp ≡ needs_stamp s) × IssuedIs old new clock stamp
+
+-- the stamp, where there is one, is the desk's next one at the greater of now and the clock
+abbrev pub IsDue : DeskView → ℕ → Option Stamp → Type 0
+IsDue d clock issued = IfSome issued (λ stamp. due_stamp (node_at d) clock ≡ Some stamp)
+
+-- the run needs a stamp for what it says next, and the desk issued exactly its next one
+abbrev pub HasIssuedDue : DeskView → DeskView → ℕ → State → Type 0
+HasIssuedDue old new clock s =
+    (needs_stamp s ≡ true) × (stamp : Stamp) × (due_stamp (node_at old) clock ≡ Some stamp) × Entered old new (Issue (max (node_at old).now clock) stamp)
 
 -- where the run needs a stamp for what it says next, none is left
 abbrev pub spent_refusal : DeskView → State → Option Refusal
@@ -105,6 +114,10 @@ module _ (opens : Key → Tree → Option Tree) (checks : Key → Tree → Tree 
   abbrev pub HasIssued : DeskView → DeskView → ℕ → Bytes → ℕ → Type 0
   HasIssued old new run bytes clock = (s : State) × (m : Tree) × (t : Taken) × IsFit old run bytes s m t × IssuedFor old new clock (after_message s t)
 
+  -- the desk is as it was; or the bytes fit the open run, which needs a stamp for its reply, and the desk issued exactly its next one
+  abbrev pub IssuedAtMost : DeskView → DeskView → ℕ → Bytes → ℕ → Type 0
+  IssuedAtMost old new run bytes clock = Untouched old new ⊎ ((s : State) × (m : Tree) × (t : Taken) × IsFit old run bytes s m t × HasIssuedDue old new clock (after_message s t))
+
   -- where draws are told: they stay; or the bytes fit, and the draws have moved on by no more than the values of the reply
   abbrev pub HasMovedDraws : DeskView → ℕ → Bytes → Option Told → Option Told → Type 0
   HasMovedDraws d run bytes told_old told_new =
@@ -154,6 +167,10 @@ IsFirstRefused d run rose e =
 -- the run says its first message now, and the desk issued a stamp exactly where the run needs one for it
 abbrev pub HasIssuedFirst : DeskView → DeskView → ℕ → ℕ → Type 0
 HasIssuedFirst old new run clock = (s : State) × (run_at old run ≡ open_in s) × (sends_first s ≡ true) × IssuedFor old new clock s
+
+-- the desk is as it was; or the open run says its first message now and needs a stamp for it, and the desk issued exactly its next one
+abbrev pub IssuedAtMostFirst : DeskView → DeskView → ℕ → ℕ → Type 0
+IssuedAtMostFirst old new run clock = Untouched old new ⊎ ((s : State) × (run_at old run ≡ open_in s) × (sends_first s ≡ true) × HasIssuedDue old new clock s)
 
 -- where draws are told: they stay; or the run says its first message now, and the draws have moved on by no more than its values
 abbrev pub HasMovedDrawsFirst : DeskView → ℕ → Option Told → Option Told → Type 0

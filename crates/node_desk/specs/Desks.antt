@@ -1,9 +1,9 @@
 -- A desk: one node, which is what its log says.
-use Rattle.std.specs.Prelude.{◌≡◌, ◌≤◌, ℕ, Bool, true, List, [], ◌∷◌, ◌++◌, reverse, Option, Some, count_by, None}
-use Rattle.term_values.specs.Trees.{Tree}
+use Rattle.std.specs.Prelude.{◌≡◌, ◌≤◌, ℕ, Bool, true, List, [], ◌∷◌, ◌++◌, reverse, Option, Some, count_by, None, max}
+use Rattle.term_values.specs.Trees.{Among, Tree}
 use Rattle.term_values.specs.declared.small.Key.{Key}
 use Rattle.term_values.specs.declared.small.Stamp.{Stamp}
-use Rattle.replay_store.specs.Stamps.{Accepted, number_of}
+use Rattle.replay_store.specs.Stamps.{Accepted, next_stamp, number_of}
 use Rattle.fresh_values.specs.Issued.{Issued}
 use Rattle.mech_rows.specs.declared.refusal.Refusal.{Refusal}
 use Rattle.mech_rows.specs.Rings.{Ring, keys_in}
@@ -12,11 +12,11 @@ use Rattle.mech_rows.specs.Runs.{Keys}
 use Rattle.mech_rows.specs.Steps.{Sealer, IsStep}
 use Rattle.mech_rows.specs.Lawful.{tested_by}
 use Rattle.mech_rows.specs.Moves.{Move, step_of}
-use Rattle.agreement_laws.specs.Nodes.{Node, Log, new_node, node_after, IsLegal, WasIssued, WasUsed}
+use Rattle.agreement_laws.specs.Nodes.{Node, Log, new_node, node_after, IsLegal, NodeStep, WasIssued, WasUsed}
 use Rattle.node_desk.specs.declared.event.Event.{Event}
 use Rattle.node_desk.specs.declared.event.Event.TheVariants.{Open, Issue, Commit, Drop, Restart}
 use Rattle.node_desk.specs.declared.place.Place.{Place}
-use Rattle.node_desk.specs.Events.{log_of}
+use Rattle.node_desk.specs.Events.{event_of, log_of}
 use Rattle.node_desk.specs.Helds.{Held, held_at, AreHeld, is_open_place}
 use Rattle.node_desk.specs.Accepteds.{Alike}
 use Rattle.node_desk.specs.Refusals.{CommitAnswer, got_refusal}
@@ -58,11 +58,23 @@ abbrev pub IsLegalLog : Ring → ℕ → List Event → Type 0
 IsLegalLog ring first log =
     (opens : Key → Tree → Option Tree) (checks : Key → Tree → Tree → Bool) → AreSteps (tested_by opens checks) (keys_in ring) (reverse log) → IsLegal (tested_by opens checks) (new_node ring first) (log_of log)
 
+-- the sealing over which each item is that of each body
+abbrev pub any_sealing : Sealer
+any_sealing is_check key item body = Unit {0}
+
+-- the log leads from a new node through what each event needs, whatever its items are
+abbrev pub IsWholeLog : Ring → ℕ → List Event → Type 0
+IsWholeLog ring first log = IsLegal any_sealing (new_node ring first) (log_of log)
+
 -- the step was made with these keys, over some sealing
 pub record IsMadeWith (keys : Keys) (step : Move) : Type 0 where
   pub opens : Key → Tree → Option Tree
   pub checks : Key → Tree → Tree → Bool
   pub is_step : IsStep (tested_by opens checks) keys (step_of step)
+
+-- each commit's step was made with these keys
+abbrev pub AreMadeWith : Keys → List Event → Type 0
+AreMadeWith keys log = (run now : ℕ) (step : Move) → Among (Commit run now step) log → IsMadeWith keys step
 
 -- the stamp, where there is one, was issued, and no commit has used it
 abbrev pub IsUnused : Option Stamp → Log → Type 0
@@ -73,6 +85,15 @@ pub record Entered (old new : DeskView) (event : Event) : Type 0 where
   pub ring : new.ring ≡ old.ring
   pub first : new.first ≡ old.first
   pub log : new.log ≡ old.log ++ event ∷ []
+
+-- the desk's node took the node machine's step for the event, over each sealing over which a Commit is of a step with the ring's keys
+abbrev pub HasStepped : DeskView → DeskView → Event → Type 0
+HasStepped old new event =
+    (opens : Key → Tree → Option Tree) (checks : Key → Tree → Tree → Bool) → IsStepEvent (tested_by opens checks) (keys_in old.ring) event → NodeStep (tested_by opens checks) (node_at old) (event_of event) (node_at new)
+
+-- the stamp that a node issues next, at the greater of its now and the clock
+abbrev pub due_stamp : Node → ℕ → Option Stamp
+due_stamp node clock = next_stamp node.ring.kind node.last (max node.now clock)
 
 -- the desk is as it was, but for its room
 pub record Untouched (old new : DeskView) : Type 0 where
@@ -108,9 +129,10 @@ HavePart ring (Some h) = has_parts ring h.state.head ≡ true
 abbrev pub HaveParts : Ring → List Event → Type 0
 HaveParts ring log = (n : ℕ) → HavePart ring (held_at log n)
 
--- what a desk keeps: its log is legal, its parts are those of the node, and each open run has room for its Drop
+-- what a desk keeps: its log is legal and its commits are of steps with the ring's keys, its parts are those of the node, and each open run has room for its Drop
 pub record IsKept (ring : Ring) (first : ℕ) (log : List Event) (issued : Issued) (now window : ℕ) (stands_for : List Accepted → Type 0) (places : List Place) (open_count room : ℕ) : Type 0 where
-  pub legal : IsLegalLog ring first log
+  pub whole : IsWholeLog ring first log
+  pub made : AreMadeWith (keys_in ring) log
   pub node : IsNode (node_of ring first log) issued now window stands_for
   pub stamps : AreStamps (log_of log) issued.last
   pub parts : HaveParts ring log

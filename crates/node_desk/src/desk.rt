@@ -1,5 +1,6 @@
-ghost use Rattle.std.specs.Prelude.{true, ◌≡◌, ◌≢◌, ◌<◌, ◌≤◌, ◌↔◌, IsTrue, [], ℕ, None, Some, max, OnOk, OnErr, IfOk, IfErr, MatchResult};
+ghost use Rattle.std.specs.Prelude.{true, ◌≡◌, ◌≢◌, ◌+◌, ◌<◌, ◌≤◌, ◌↔◌, IsTrue, [], ℕ, None, Some, max, OnOk, OnErr, IfOk, IfErr, MatchResult};
 ghost use Rattle.std.specs.Bool.{OnTrue, OnFalse};
+ghost use Rattle.agreement_laws.specs.Nodes.{opens_in};
 ghost use Rattle.mech_rows.specs.Heads.{me};
 ghost use Rattle.mech_rows.specs.Openings.{has_parts};
 ghost use Rattle.mech_rows.specs.Rings.{keys_in};
@@ -68,7 +69,7 @@ impl<T: Store> Desk<T> {
     ghost use Rattle.node_desk.specs.Helds.{Held};
     ghost use Rattle.node_desk.specs.Openings.{opening_refusal as opening_refused};
     ghost use Rattle.node_desk.specs.Refusals.{issue_refusal, run_refusal};
-    ghost use Rattle.node_desk.specs.Desks.{node_at, run_at, Entered, Untouched, CommitAnswers, IsLegalLog, IsMadeWith, IsUnused};
+    ghost use Rattle.node_desk.specs.Desks.{node_at, run_at, Entered, HasStepped, Untouched, CommitAnswers, IsLegalLog, IsWholeLog, IsMadeWith, AreMadeWith, IsUnused, due_stamp};
 
     /// A node that did nothing yet: no runs, an empty log. The issuer is of the ring's kind of stamps; the store has the
     /// ring's window, its now is 0, and it has accepted nothing. Takes no memory.
@@ -100,10 +101,13 @@ impl<T: Store> Desk<T> {
         &self.ring
     }
 
-    /// What happened at the node. Takes no memory.
+    /// What happened at the node: a legal log, each of whose commits is of a step that was made with the ring's keys. Takes no
+    /// memory.
     pub fn log(&self) -> &Log
         ensures log { result.now.events ≡ self.now.log }
         ensures legal { IsLegalLog self.now.ring self.now.first self.now.log }
+        ensures whole { IsWholeLog self.now.ring self.now.first self.now.log }
+        ensures made { AreMadeWith (keys_in self.now.ring) self.now.log }
     {
         &self.log
     }
@@ -122,7 +126,7 @@ impl<T: Store> Desk<T> {
         Ok(state)
     }
 
-    /// Opens a run of the node's own name and answers its number: the runs count from 1.
+    /// Opens a run of the node's own name and answers its number, which is one more than the runs that were opened.
     ///
     /// # Errors
     ///
@@ -135,6 +139,8 @@ impl<T: Store> Desk<T> {
         ensures fit { OnOk result (opening_refused (node_at self.old) head.now ≡ None) }
         ensures refused { IfErr result (λ e. e ≢ Memory → opening_refused (node_at self.old) head.now ≡ Some e) }
         ensures err { OnErr result (Untouched self.old self.new) }
+        ensures number { IfOk result (λ run. run ≡ opens_in (log_of self.old.log) + 1) }
+        ensures steps { IfOk result (λ run. HasStepped self.old self.new (Open run head.now texts.now)) }
     {
         let opened = self.places.as_slice().len();
         if let Some(refusal) = opening_refusal(&self.ring, self.running, opened, head) {
@@ -159,7 +165,8 @@ impl<T: Store> Desk<T> {
         Ok(run)
     }
 
-    /// Issues a stamp at the greater of now and the clock, in milliseconds, which is then the node's now.
+    /// Issues the node's next stamp at the greater of now and the clock, in milliseconds, which is then the node's now. Takes the
+    /// room of one commit at most.
     ///
     /// # Errors
     ///
@@ -171,6 +178,10 @@ impl<T: Store> Desk<T> {
         ensures fit { OnOk result (issue_refusal (node_at self.old) ≡ None) }
         ensures refused { IfErr result (λ e. e ≢ Memory → issue_refusal (node_at self.old) ≡ Some e) }
         ensures err { OnErr result (Untouched self.old self.new) }
+        ensures stamp { IfOk result (λ stamp. due_stamp (node_at self.old) clock ≡ Some stamp) }
+        ensures steps { IfOk result (λ stamp. HasStepped self.old self.new (Issue (max (node_at self.old).now clock) stamp)) }
+        ensures moment { OnOk result ((node_at self.new).now ≡ max (node_at self.old).now clock) }
+        ensures spare { self.old.spare ≤ self.new.spare + 1 }
     {
         if self.issuer.last() == u64::MAX {
             return Err(Refusal::StampsSpent);
@@ -226,7 +237,7 @@ impl<T: Store> Desk<T> {
     /// step is its last one.
     ///
     /// There is room, which `ready` makes; the step was made with the ring's keys, and a stamp that it issued was issued by
-    /// this node and used by no commit before, which `suits` tests. Takes no memory.
+    /// this node and used by no commit before, which `suits` tests. Takes no memory, and the room of one commit at most.
     ///
     /// # Errors
     ///
@@ -241,6 +252,9 @@ impl<T: Store> Desk<T> {
         ensures refused { IfErr result (λ e. CommitAnswers self.old run step clock (Some e)) }
         ensures memory { IfErr result (λ e. e ≢ Memory) }
         ensures err { OnErr result (self.new ≡ self.old) }
+        ensures steps { OnOk result (HasStepped self.old self.new (Commit run (max (node_at self.old).now clock) step)) }
+        ensures moment { OnOk result ((node_at self.new).now ≡ max (node_at self.old).now clock) }
+        ensures spare { self.old.spare ≤ self.new.spare + 1 }
     {
         let kind = kind_of(&self.ring);
         let log = self.log.list();
@@ -258,12 +272,14 @@ impl<T: Store> Desk<T> {
         Ok(())
     }
 
-    /// Ends an open run; false exactly where it isn't open, and then nothing has changed. Takes no memory.
+    /// Ends an open run; false exactly where it isn't open, and then nothing has changed. Takes no memory and no room of a commit.
     pub fn drop_run(&mut self, run: u32) -> bool
         ensures dropped { OnTrue result (Entered self.old self.new (Drop run)) }
         ensures kept { OnFalse result (self.new ≡ self.old) }
         ensures running { OnTrue result (run_refusal (run_at self.old run) ≡ None) }
         ensures over { OnFalse result (run_refusal (run_at self.old run) ≢ None) }
+        ensures steps { OnTrue result (HasStepped self.old self.new (Drop run)) }
+        ensures spare { self.new.spare ≡ self.old.spare }
     {
         let Ok(place) = find(&self.places, self.log.list(), run) else {
             return false;

@@ -17,7 +17,7 @@ ghost use Rattle.node_desk.specs.Events.{log_of};
 ghost use Rattle.node_desk.specs.Lives.{live_state};
 ghost use Rattle.node_desk.specs.Refusals.{run_refusal};
 ghost use Rattle.node_desk.specs.Desks.{run_at, Untouched, IsUnused};
-ghost use Rattle.node_desk.specs.Deliveries.{open_in, IssuedIs, MayHaveIssued, HasIssued, HasIssuedFirst, IsUnfit, IsTurnedAway, IsUnmade, IsFirstRefused, HasMovedDraws, HasMovedDrawsFirst, MadeFor, FirstFor, most_drawn, spent_refusal};
+ghost use Rattle.node_desk.specs.Deliveries.{open_in, IssuedIs, MayHaveIssued, HasIssued, HasIssuedFirst, IsDue, IssuedAtMost, IssuedAtMostFirst, IsUnfit, IsTurnedAway, IsUnmade, IsFirstRefused, HasMovedDraws, HasMovedDrawsFirst, MadeFor, FirstFor, most_drawn, spent_refusal};
 
 use crate::commit::given_up;
 use crate::desk::Desk;
@@ -96,6 +96,7 @@ fn stamp_for<T: Store>(
     ensures fit { OnOk result (spent_refusal desk.old (live_state state.now) ≡ None) }
     ensures refused { IfErr result (λ e. e ≢ Memory → spent_refusal desk.old (live_state state.now) ≡ Some e) }
     ensures err { OnErr result (Untouched desk.old desk.new) }
+    ensures due { IfOk result (IsDue desk.old clock) }
 {
     if !state.needs_stamp() {
         return Ok(None);
@@ -116,6 +117,7 @@ fn stamp_after<T: Store>(
     ensures fit { OnOk result (spent_refusal desk.old prepared.now.after ≡ None) }
     ensures refused { IfErr result (λ e. e ≢ Memory → spent_refusal desk.old prepared.now.after ≡ Some e) }
     ensures err { OnErr result (Untouched desk.old desk.new) }
+    ensures due { IfOk result (IsDue desk.old clock) }
 {
     stamp_for(desk, &prepared.after, clock)
 }
@@ -129,7 +131,8 @@ fn stamp_after<T: Store>(
 /// The first that holds: `UnknownRun`, `EndedRun`, `Malformed`, `WrongPass`; of each part of the message `Unopened`,
 /// `WrongShape`, `WrongNames`, `WrongValue`; `TextRefused`; `StampsSpent`; then the desk and the draws are as they were.
 /// `DrawFault`, only where the count of faults rose in this call; then the desk has issued a stamp where one is needed. Want
-/// of memory may come at any place. The draws that were taken are not given back.
+/// of memory may come at any place; the desk has then issued at most its next stamp, and only where the bytes fit and one is
+/// needed. The draws that were taken are not given back.
 pub fn make_step<T: Store, S: Sealer, D: Draws>(
     alloc: Global,
     desk: &mut Desk<T>,
@@ -148,6 +151,8 @@ pub fn make_step<T: Store, S: Sealer, D: Draws>(
     ensures faulted { IfErr result (λ e. e ≡ DrawFault → HasIssued S.opens S.checks (allowed hook.now.rules.items) desk.old desk.new run bytes.now clock) }
     ensures moved { HasMovedDraws S.opens S.checks (allowed hook.now.rules.items) desk.old run bytes.now (D.told draws.old) (D.told draws.new) }
     ensures later { D.fault_count draws.old ≤ D.fault_count draws.new }
+    ensures due { IfOk result (λ step. IsDue desk.old clock step.issued) }
+    ensures issue_due { OnErr result (IssuedAtMost S.opens S.checks (allowed hook.now.rules.items) desk.old desk.new run bytes.now clock) }
 {
     let prepared = prepared_for(alloc, desk, sealer, hook, run, bytes)?;
     let stamp = match stamp_after(desk, &prepared, clock) {
@@ -206,7 +211,8 @@ fn first_by<P: RoleState, S: Sealer, D: Draws>(
 ///
 /// The first that holds: `UnknownRun`, `EndedRun`, `WrongPass` where the run doesn't say the first message now, `StampsSpent`;
 /// then the desk and the draws are as they were. `DrawFault`, only where the count of faults rose in this call; then the desk
-/// has issued a stamp where one is needed. Want of memory may come at any place. The draws that were taken are not given back.
+/// has issued a stamp where one is needed. Want of memory may come at any place; the desk has then issued at most its next stamp,
+/// and only where the run says the first message now and one is needed. The draws that were taken are not given back.
 pub fn make_first<T: Store, S: Sealer, D: Draws>(
     alloc: Global,
     desk: &mut Desk<T>,
@@ -223,6 +229,8 @@ pub fn make_first<T: Store, S: Sealer, D: Draws>(
     ensures faulted { IfErr result (λ e. e ≡ DrawFault → HasIssuedFirst desk.old desk.new run clock) }
     ensures moved { HasMovedDrawsFirst desk.old run (D.told draws.old) (D.told draws.new) }
     ensures later { D.fault_count draws.old ≤ D.fault_count draws.new }
+    ensures due { IfOk result (λ step. IsDue desk.old clock step.issued) }
+    ensures issue_due { OnErr result (IssuedAtMostFirst desk.old desk.new run clock) }
 {
     let state = starting(desk, run)?;
     let stamp = match stamp_for(desk, &state, clock) {

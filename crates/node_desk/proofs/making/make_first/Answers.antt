@@ -1,5 +1,9 @@
+use Rattle.std.proofs.Common.{sym, subst}
+use Rattle.std.proofs.lemmas.Result.{err_from_is_err_and}
+use Rattle.node_desk.specs.Deliveries.{IsDue}
 use Rattle.node_desk.specs.Lives.{live_state}
 use Rattle.node_desk.proofs.Delivering.{first-for}
+use Rattle.node_desk.proofs.Dues.{due-first}
 use Rattle.node_desk.proofs.making.make_first.Goals as goal
 
 pub returns-clause-ok : goal.returns-clause-ok
@@ -9,3 +13,13 @@ returns-clause-ok g c =
     let step = c.in_ok-step.ensures in
     first-for g.S.Sealer.opens g.S.Sealer.checks c.args.desk.now c.args.run c.args.clock (live_state c.in_ok-state.state) _ _ _ _ c.stamp_for.new.desk c.ring.result.now c.in-Ok.stamp c.in_ok-step.step
     state.current state.first c.ring.ensures.ring issued.issued issued.unused issued.given issued.fit step.before step.taken step.issued step.says step.step step.limits step.drawn
+
+pub returns-in_err-step-clause-issue_due : goal.returns-in_err-step-clause-issue_due
+returns-in_err-step-clause-issue_due g c =
+    let p = err_from_is_err_and c.from_residual-in_err-step.result c.from_residual-in_err-step.ensures.1 in
+    let state = c.in_ok-state.ensures in
+    let issued = c.in-Ok.ensures in
+    rw p.1 (due-first c.args.desk.now c.stamp_for.new.desk c.args.run c.args.clock (live_state c.in_ok-state.state) c.in-Ok.stamp state.current state.first issued.given issued.issued issued.due)
+
+pub returns-clause-due : goal.returns-clause-due
+returns-clause-due g c = subst (IsDue c.args.desk.now c.args.clock) (sym c.in_ok-step.ensures.issued) c.in-Ok.ensures.due

@@ -1,9 +1,10 @@
-use Rattle.std.proofs.Common.{◌≡◌, ◌≢◌, sym, ◌∙◌, inl, inr}
+use Rattle.std.proofs.Common.{sym, subst, ◌∙◌, inl, inr}
 use Rattle.std.proofs.lemmas.Result.{err_from_is_err_and}
-use Rattle.mech_rows.specs.declared.refusal.Refusal.TheVariants.{DrawFault, Memory}
 use Rattle.text_hooks.specs.Rules.{allowed}
+use Rattle.node_desk.specs.Deliveries.{IsDue}
 use Rattle.node_desk.proofs.Causes.{fault-other, late-fault, early, spent-early}
 use Rattle.node_desk.proofs.Delivering.{issued-ring, unmade-late, made-for}
+use Rattle.node_desk.proofs.Dues.{due-late}
 use Rattle.node_desk.proofs.making.make_step.Goals as goal
 
 pub returns-in_err-prepared-clause-refused : goal.returns-in_err-prepared-clause-refused
@@ -40,3 +41,14 @@ returns-clause-ok g c =
     made-for g.S.Sealer.opens g.S.Sealer.checks (allowed c.args.hook.now.rules.items) c.args.desk.now c.args.run c.args.clock c.args.bytes.now c.in_ok-prepared.prepared prepared.read prepared.current prepared.fit prepared.fitted
     _ _ _ _ c.stamp_after.new.desk c.ring.result.now c.in-Ok.stamp c.in_ok-step.step
     c.ring.ensures.ring issued.issued issued.unused issued.given issued.fit step.before step.taken step.opened step.got step.issued step.step step.limits step.drawn step.silent
+
+pub returns-in_err-step-clause-issue_due : goal.returns-in_err-step-clause-issue_due
+returns-in_err-step-clause-issue_due g c =
+    let p = err_from_is_err_and c.from_residual-in_err-step.result c.from_residual-in_err-step.ensures.1 in
+    let prepared = c.in_ok-prepared.ensures in
+    let issued = c.in-Ok.ensures in
+    rw p.1 (due-late g.S.Sealer.opens g.S.Sealer.checks (allowed c.args.hook.now.rules.items) c.args.desk.now c.stamp_after.new.desk c.args.run c.args.clock c.args.bytes.now c.in_ok-prepared.prepared c.in-Ok.stamp
+    prepared.read prepared.current prepared.fit prepared.fitted issued.given issued.issued issued.due)
+
+pub returns-clause-due : goal.returns-clause-due
+returns-clause-due g c = subst (IsDue c.args.desk.now c.args.clock) (sym c.in_ok-step.ensures.issued) c.in-Ok.ensures.due

@@ -3,6 +3,8 @@ use Rattle.node_desk.specs.Helds.{table_at}
 use Rattle.node_desk.specs.Refusals.{IsCurrent}
 use Rattle.node_desk.proofs.Answered.{answer-is, fit-is, never-memory}
 use Rattle.node_desk.proofs.Found.{read-place, open-current, some-open, counted-commit, no-more}
+use Rattle.node_desk.proofs.Needed.{steps-commit, committed-at}
+use Rattle.node_desk.proofs.Rooms.{room-commit}
 use Rattle.node_desk.proofs.Kept.{kept-commit}
 use Rattle.node_desk.proofs.desk.Desk.commit.Goals as goal
 
@@ -40,7 +42,7 @@ invariant_of-self g c =
     let running = open-current c.self.inside.log.events c.self.inside.places.items c.args.run c.in-Ok.place c.index_mut.result.now c.args.step c.in-Ok.ensures.place there current in
     kept-commit _ _ _ _ _ _ _ _ _ _ _ c.self.inside.places.items _ _ _ _ _ c.args.run c.args.clock c.tick-now.result c.in-Ok.place c.index_mut.result.now c.args.step c.self.invariant
     c.push.ensures.added
-    (record { opens = c.requires.made.opens; checks = c.requires.made.checks; keys = _; is_step = c.requires.made.is_step })
+    (rw (← c.self.view_is) at c.requires.made)
     (rw (← c.self.view_is) at c.requires.issued)
     current
     c.in-Ok.ensures.place
@@ -66,3 +68,22 @@ returns-clause-fit g c =
     let places : c.deref.result.now ≡ c.self.inside.places.items = c.deref.ensures.value in
     rw (← c.self.view_is)
     (fit-is _ _ _ _ _ _ _ _ _ _ c.self.invariant c.args.run c.args.clock c.args.step (rw (log, places) at c.in-Ok.ensures.current) (rw kind at (c.in-Ok.ensures.fit node.accepted node.stands)))
+
+pub returns-clause-steps : goal.returns-clause-steps
+returns-clause-steps g c =
+    let kind : c.kind_of-kind.result ≡ c.self.inside.ring.kind = c.kind_of-kind.ensures in
+    let log : c.list-log.result.now ≡ c.self.inside.log.events = c.list-log.ensures.value in
+    let places : c.deref.result.now ≡ c.self.inside.places.items = c.deref.ensures.value in
+    rw (← c.self.view_is) (steps-commit c.self.inside.ring c.self.inside.first c.self.inside.log.events _ _ _ _ _ c.self.inside.places.items c.args.run c.args.clock _ c.args.step c.self.invariant.node c.self.invariant.held c.push.ensures.added
+    (rw (← c.self.view_is) at c.requires.issued)
+    (rw (log, places) at c.in-Ok.ensures.current)
+    (λ a h. rw kind at (c.in-Ok.ensures.fit a h))
+    c.tick-now.ensures.answer)
+
+pub returns-clause-moment : goal.returns-clause-moment
+returns-clause-moment g c = rw (← c.self.view_is) (committed-at c.self.inside.ring c.self.inside.first c.self.inside.log.events _ _ _ _ _ c.args.run c.args.clock _ c.args.step c.self.invariant.node c.push.ensures.added c.tick-now.ensures.answer)
+
+pub returns-clause-spare : goal.returns-clause-spare
+returns-clause-spare g c =
+    let fewer = no-more c.is_going-going.result c.self.inside.running c.running_after-self-inside.result c.running_after-self-inside.ensures in
+    rw (← c.self.view_is) (room-commit _ _ _ _ _ c.self.inside.running _ c.tick-now.ensures.room c.record_step.ensures.room c.push.ensures.room fewer)

@@ -3,6 +3,8 @@ use Rattle.std.specs.Prelude.{count_by}
 use Rattle.node_desk.specs.Helds.{is_open_place, table_at}
 use Rattle.node_desk.specs.Refusals.{run_refusal}
 use Rattle.node_desk.proofs.Found.{read-place, open-found, some-open}
+use Rattle.node_desk.proofs.Needed.{steps-drop}
+use Rattle.node_desk.proofs.Rooms.{room-drop}
 use Rattle.node_desk.proofs.Kept.{kept-drop}
 use Rattle.node_desk.proofs.desk.Desk.drop_run.Goals as goal
 
@@ -41,3 +43,24 @@ invariant_of-self g c =
     kept-drop _ _ _ _ _ _ _ _ c.self.inside.places.items _ _ _ _ _ c.args.run c.in-Ok.place c.index_mut.result.now c.self.invariant c.push.ensures.added c.in-Ok.ensures.place inside there running refl
     (omega (arith, some, is, after))
     c.push.ensures.room
+
+pub returns-clause-steps : goal.returns-clause-steps
+returns-clause-steps g c =
+    let log : c.list.result.now ≡ c.self.inside.log.events = c.list.ensures.value in
+    let places : c.deref.result.now ≡ c.self.inside.places.items = c.deref.ensures.value in
+    let inside : c.in-Ok.place < length c.self.inside.places.items = rw places at c.in-Ok.ensures.within in
+    let none : run_refusal (table_at c.self.inside.log.events c.self.inside.places.items c.args.run) ≡ None = rw (log, places) at c.in-Ok.ensures.running in
+    let there = read-place c.self.inside.places.items c.in-Ok.place c.index_mut.result.now inside c.index_mut.ensures.value in
+    let running = open-found c.self.inside.log.events c.self.inside.places.items c.args.run c.in-Ok.place c.index_mut.result.now c.in-Ok.ensures.place there none in
+    rw (← c.self.view_is) (steps-drop c.self.inside.ring c.self.inside.first c.self.inside.log.events _ c.self.inside.places.items c.args.run c.in-Ok.place c.index_mut.result.now c.self.invariant.held c.push.ensures.added c.in-Ok.ensures.place there running)
+
+pub returns-clause-spare : goal.returns-clause-spare
+returns-clause-spare g c =
+    let log : c.list.result.now ≡ c.self.inside.log.events = c.list.ensures.value in
+    let places : c.deref.result.now ≡ c.self.inside.places.items = c.deref.ensures.value in
+    let inside : c.in-Ok.place < length c.self.inside.places.items = rw places at c.in-Ok.ensures.within in
+    let none : run_refusal (table_at c.self.inside.log.events c.self.inside.places.items c.args.run) ≡ None = rw (log, places) at c.in-Ok.ensures.running in
+    let there = read-place c.self.inside.places.items c.in-Ok.place c.index_mut.result.now inside c.index_mut.ensures.value in
+    let some : 0 < count_by is_open_place c.self.inside.places.items = some-open c.self.inside.places.items c.in-Ok.place c.index_mut.result.now inside there (open-found c.self.inside.log.events c.self.inside.places.items c.args.run c.in-Ok.place c.index_mut.result.now c.in-Ok.ensures.place there none) in
+    let is = c.self.invariant.open_is in
+    rw (← c.self.view_is) (room-drop _ _ _ c.self.inside.running _ (omega (arith, some, is)) c.push.ensures.room c.running_after-self-inside.ensures)

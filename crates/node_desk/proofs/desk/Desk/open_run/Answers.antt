@@ -1,5 +1,6 @@
-use Rattle.std.proofs.Common.{◌<◌, length, refl, sym, ◌∙◌, arith}
-use Rattle.node_desk.proofs.Kept.{opening-is, kept-open, kept-more}
+use Rattle.std.proofs.Common.{◌+◌, ◌<◌, ℕ, length, refl, sym, ap, ◌∙◌, arith}
+use Rattle.node_desk.proofs.Needed.{opening-is, steps-open}
+use Rattle.node_desk.proofs.Kept.{kept-open, kept-more}
 use Rattle.node_desk.proofs.Mays.{few-opened}
 use Rattle.node_desk.proofs.desk.Desk.open_run.Goals as goal
 
@@ -34,3 +35,16 @@ invariant_of-self-2 g c =
 pub returns-clause-fit : goal.returns-clause-fit
 returns-clause-fit g c =
     rw (← c.self.view_is) (sym (opening-is c.self.inside.ring c.self.inside.first c.self.inside.log.events c.self.inside.places.items c.self.inside.running c.args.head.now c.self.invariant.held c.self.invariant.open_is) ∙ (rw c.as_slice-opened.ensures.value at (sym c.in_default.ensures)))
+
+pub returns-clause-number : goal.returns-clause-number
+returns-clause-number g c =
+    rw (← c.self.view_is, c.as_slice-opened.ensures.value) (ap (λ (n : ℕ). n + 1) (sym c.self.invariant.held.count))
+
+pub returns-clause-steps : goal.returns-clause-steps
+returns-clause-steps g c =
+    rw (← c.self.view_is) (steps-open c.self.inside.ring c.self.inside.first c.self.inside.log.events _ c.self.inside.places.items c.self.inside.running _ c.args.head.now c.args.texts.now c.self.invariant.held c.self.invariant.open_is
+    (rw (c.reserve-2.ensures.kept, c.copied-own.ensures.value, c.in_ok-sent.ensures.equal) at c.push.ensures.added)
+    (rw c.copied-own.ensures.value at c.copied-own.ensures.is_head)
+    (rw (← c.self.view_is) at c.requires.own)
+    (rw c.as_slice-opened.ensures.value at (sym c.in_default.ensures))
+    (rw c.as_slice-opened.ensures.value refl))
