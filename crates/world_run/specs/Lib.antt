@@ -1,0 +1,15 @@
+pub mod Conditions
+pub mod Tested
+pub mod Born
+pub mod Views
+pub mod Parties
+pub mod Beginnings
+pub mod Answers
+pub mod Claims
+pub mod Clocks
+pub mod Turns
+pub mod Opens
+pub mod Gives
+pub mod Makings
+pub mod Kept
+pub mod Starts
