@@ -19,11 +19,7 @@ mod scene;
 mod seat;
 mod seating;
 mod telling;
-#[cfg(test)]
-mod tests;
 mod world;
-#[cfg(test)]
-mod world_tests;
 
 pub use bad_config::BadConfig;
 pub use config::Config;

@@ -128,6 +128,17 @@ impl World {
         message_of(&self.scene.history, m)
     }
 
+    /// Whether there are numbers for one more run and one more message, and draws for it: up to 4,294,967,294 runs and messages, and
+    /// 18,446,744,073,709,551,599 draws. Takes no memory.
+    pub fn has_numbers(&self) -> bool
+        ensures { IsTrue result ↔ HasNumbers self.now }
+    {
+        let history = &self.scene.history;
+        self.scene.runs.len() < 4_294_967_295
+            && history.sent.len() < 4_294_967_295
+            && self.scene.draws.count() < 18_446_744_073_709_551_600
+    }
+
     /// Raises the clock of a party to the greater of itself and that time, in milliseconds, and answers it. Takes no memory.
     ///
     /// # Errors
@@ -180,17 +191,6 @@ impl World {
         ensures grows { HasGrown self.old self.new }
     {
         give_in(self.alloc, &mut self.scene, hook, run, term)
-    }
-
-    /// Whether there are numbers for one more run and one more message, and draws for it.
-    #[cfg(test)]
-    pub(crate) fn has_numbers(&self) -> bool
-        ensures { IsTrue result → HasNumbers self.now }
-    {
-        let history = &self.scene.history;
-        self.scene.runs.len() < 4_294_967_295
-            && history.sent.len() < 4_294_967_295
-            && self.scene.draws.count() < 18_446_744_073_709_551_600
     }
 
     /// Drops an open run, before it is done. Takes no memory.

@@ -2,7 +2,6 @@ ghost use Rattle.std.specs.Prelude.{true, ◌≡◌, [], IsTrue};
 ghost use Rattle.text_hooks.specs.Rules.{allowed};
 ghost use Rattle.node_desk.specs.Lives.{plays_live};
 
-use crate::{Config, Given, Opened, Pair, Party, World};
 use agreement_laws::partner;
 use mech_rows::{Mech, Refusal, Role, RunHead, Slot, Texts, agreed, passes};
 use std::alloc::Global;
@@ -11,6 +10,7 @@ use std::test::Fail;
 use tagged_codec::encode;
 use term_values::{Form, Items, Key, Name, Nonce, Part, Stamp, StampKind, Tag, Term, Text};
 use text_hooks::{Hook, Judgement, Rule, judge_by, name_term, nonce_term, tag_term, text_term};
+use world_run::{Config, Given, Opened, Pair, Party, World};
 
 const SHARED: Part = Part([0xaa; 32]);
 
@@ -197,12 +197,21 @@ fn no_text(alloc: Global) -> Result<Term, Fail> {
     Ok(text_term(alloc, &Text::new(Vec::new(alloc))?).or(Err("no text"))?)
 }
 
-/// Counted nonce k.
-fn counted(k: u8) -> Term {
+/// The nonce of that first byte and last two bytes, with zeros between. Counted nonces begin with 0xd0 and end with their number.
+fn nonce(lead: u8, high: u8, low: u8) -> Term {
     let mut bytes = [0; 16];
-    bytes[0] = 0xd0;
-    bytes[15] = k;
+    bytes[0] = lead;
+    bytes[14] = high;
+    bytes[15] = low;
     nonce_term(&Nonce(bytes))
+}
+
+/// Message 1 of E2 with this nonce.
+fn challenge(alloc: Global, nonce: Term) -> Result<Term, Fail> {
+    tuple(
+        alloc,
+        &[tag_term(Tag([1, 2, 1, 0])), nonce, no_text(alloc)?],
+    )
 }
 
 /// Message 2 of E2 of parties 1 and 2, with this key and the first counted nonce.
@@ -213,7 +222,7 @@ fn answer(rt: &impl Abort, alloc: Global, key: Part) -> Result<Term, Fail> {
             tag_term(Tag([1, 2, 2, 1])),
             name_term(name(rt, 1)),
             name_term(name(rt, 2)),
-            counted(0),
+            nonce(0xd0, 0, 0),
             no_text(alloc)?,
         ],
     )?;
@@ -241,14 +250,15 @@ fn deliveries_are_refused(rt: HostRuntime) -> Result<(), Fail> {
         (world.drop(3), world.drop(0)),
         (Err(Refusal::EndedRun), Err(Refusal::UnknownRun))
     );
-    let first = tag_term(Tag([1, 2, 1, 0]));
-    let unborn = tuple(alloc, &[first.copy(alloc)?, counted(3), no_text(alloc)?])?;
-    let short = tuple(alloc, &[first.copy(alloc)?, no_text(alloc)?])?;
+    let unborn = challenge(alloc, nonce(0xd0, 0, 3))?;
+    let far = challenge(alloc, nonce(0xd0, 1, 0))?;
+    let short = tuple(alloc, &[tag_term(Tag([1, 2, 1, 0])), no_text(alloc)?])?;
     let foreign = answer(&rt, alloc, OWN)?;
     let secret = answer(&rt, alloc, SHARED)?;
     let refused = [
         (1, &secret, Refusal::NotDerivable),
         (2, &unborn, Refusal::Unborn),
+        (2, &far, Refusal::Unborn),
         (5, &short, Refusal::UnknownRun),
         (0, &short, Refusal::UnknownRun),
         (3, &short, Refusal::EndedRun),
@@ -276,6 +286,21 @@ fn deliveries_are_refused(rt: HostRuntime) -> Result<(), Fail> {
         pass_on(&rt, alloc, &mut world, &hook, 2, 1),
         Err(Refusal::EndedRun)
     );
+    Ok(())
+}
+
+#[test]
+fn what_was_drawn_or_is_no_draw_is_taken(rt: HostRuntime) -> Result<(), Fail> {
+    let alloc = rt.alloc();
+    let mut world = world(&rt, alloc, StampKind::Time)?;
+    let hook = any_text(alloc)?;
+    for role in [Role::B, Role::A, Role::A] {
+        assert!(rt; open(&rt, alloc, &mut world, Mech::E2, role, 1, 2).is_ok());
+    }
+    for (run, lead) in [(2, 0xd0), (3, 0xd1)] {
+        let term = challenge(alloc, nonce(lead, 0, 0))?;
+        assert!(rt; give(&rt, alloc, &mut world, &hook, run, &term).is_ok());
+    }
     Ok(())
 }
 

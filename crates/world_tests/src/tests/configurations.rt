@@ -1,9 +1,7 @@
-use crate::born::has_unborn;
-use crate::conditions::keeps_conditions;
-use crate::{BadConfig, Config, Pair, Party, World};
 use std::alloc::Global;
 use std::test::Fail;
-use term_values::{Form, Items, Key, Name, Nonce, Part, StampKind, Tag, Term};
+use term_values::{Form, Name, Part, StampKind, Term};
+use world_run::{BadConfig, Config, Pair, Party, World};
 
 /// The base: its parties with their windows, its pairs with the byte of their part, and the byte of the attacker's own part.
 const PARTIES: [(u32, u32); 3] = [(1, 0), (2, 5000), (9, 600_000)];
@@ -63,6 +61,11 @@ fn base(alloc: Global) -> Result<Config, Fail> {
     })
 }
 
+/// Whether a world of the configuration is refused.
+fn is_refused(alloc: Global, config: &Config) -> bool {
+    World::new(alloc, config).err() == Some(BadConfig::Condition)
+}
+
 #[test]
 fn each_condition_is_judged(rt: HostRuntime) -> Result<(), Fail> {
     let alloc = rt.alloc();
@@ -70,55 +73,20 @@ fn each_condition_is_judged(rt: HostRuntime) -> Result<(), Fail> {
         let mut config = base(alloc)?;
         config.parties.push(party(name, window)?)?;
         config.pairs.push(pair(a, b, byte)?)?;
-        assert_eq!(rt; keeps_conditions(&config), kept);
+        assert_eq!(rt; is_refused(alloc, &config), !kept);
     }
     let mut many = base(alloc)?;
     for name in 10..71 {
-        assert!(rt; keeps_conditions(&many));
+        assert!(rt; !is_refused(alloc, &many));
         many.parties.push(party(name, 0)?)?;
     }
     assert_eq!(rt; many.parties.as_slice().len(), 64);
-    assert!(rt; keeps_conditions(&many));
+    assert!(rt; !is_refused(alloc, &many));
     many.parties.push(party(71, 0)?)?;
-    assert!(rt; !keeps_conditions(&many));
+    assert!(rt; is_refused(alloc, &many));
     let mut own = base(alloc)?;
     own.own.push(Part([OWN; 32]))?;
-    assert!(rt; !keeps_conditions(&own));
-    Ok(())
-}
-
-/// The nonce of that first byte and last two bytes, with zeros between.
-fn nonce(lead: u8, high: u8, low: u8) -> Nonce {
-    let mut bytes = [0; 16];
-    bytes[0] = lead;
-    bytes[14] = high;
-    bytes[15] = low;
-    Nonce(bytes)
-}
-
-/// The part of that first byte, that byte before its last eight, and that last byte, with zeros between.
-fn part(lead: u8, high: u8, low: u8) -> Part {
-    let mut bytes = [0; 32];
-    bytes[0] = lead;
-    bytes[23] = high;
-    bytes[31] = low;
-    Part(bytes)
-}
-
-#[test]
-fn what_was_not_drawn_is_found(rt: HostRuntime) -> Result<(), Fail> {
-    let alloc = rt.alloc();
-    let found = Term::of(Form::Nonce(nonce(0xd0, 1, 2)));
-    assert!(rt; has_unborn(&found, 258) && !has_unborn(&found, 259));
-    let other = Term::of(Form::Nonce(nonce(0xd1, 1, 2)));
-    assert!(rt; !has_unborn(&other, 0));
-    let far = Term::of(Form::Part(part(0xd1, 1, 0)));
-    assert!(rt; has_unborn(&far, 18_446_744_073_709_551_615));
-    let key = Key::Two(part(0xaa, 0, 0), part(0xd1, 0, 7));
-    let body = Term::of(Form::Tag(Tag([1, 2, 3, 4])));
-    let sealed = Term::of(Form::Seal(key, Box::new(alloc, body)?));
-    let message = Term::of(Form::Tuple(Items::new(vec![in alloc; sealed]?)));
-    assert!(rt; has_unborn(&message, 7) && !has_unborn(&message, 8));
+    assert!(rt; is_refused(alloc, &own));
     Ok(())
 }
 
@@ -140,6 +108,6 @@ fn a_world_begins_with_what_is_revealed(rt: HostRuntime) -> Result<(), Fail> {
     }
     assert!(rt; world.message(0).is_none() && world.message(1).is_none());
     config.own.push(Part([0xaa; 32]))?;
-    assert!(rt; World::new(alloc, &config).err() == Some(BadConfig::Condition));
+    assert!(rt; is_refused(alloc, &config));
     Ok(())
 }

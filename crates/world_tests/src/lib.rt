@@ -1,0 +1,5 @@
+//! Tests of worlds.
+#![tactic(auto)]
+
+#[cfg(test)]
+mod tests;

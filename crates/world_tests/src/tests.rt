@@ -1,0 +1,2 @@
+mod configurations;
+mod worlds;
