@@ -1,0 +1,16 @@
+pub mod Adding
+pub mod Answering
+pub mod Completing
+pub mod Counting
+pub mod Cuts
+pub mod Decided
+pub mod Deciding
+pub mod Fronts
+pub mod Genuine
+pub mod Once
+pub mod Output
+pub mod Partners
+pub mod Playable
+pub mod Speaking
+pub mod Starting
+pub mod Steps

@@ -1,0 +1,12 @@
+pub mod Answered
+pub mod Completions
+pub mod Counts
+pub mod Cuts
+pub mod Ends
+pub mod Fitting
+pub mod Players
+pub mod Printed
+pub mod Runs
+pub mod Said
+pub mod Stops
+pub mod Told

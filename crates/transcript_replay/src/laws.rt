@@ -1,0 +1,43 @@
+ghost use Rattle.std.specs.Prelude.{◌≡◌, ℕ, List, Some, false, take};
+ghost use Rattle.term_values.specs.Trees.{Among};
+ghost use Rattle.mech_rows.specs.declared.kinds.Slot.{Slot};
+ghost use Rattle.mech_rows.specs.Facts.{peer_of};
+ghost use Rattle.agreement_laws.specs.declared.history.Happened.{Happened};
+ghost use Rattle.agreement_laws.specs.Histories.{HistoryOf};
+ghost use Rattle.agreement_laws.specs.Partners.{run_of};
+ghost use Rattle.agreement_laws.specs.Sound.{AgreesAt, IsSound};
+ghost use Rattle.agreement_laws.specs.Traces.{RunId};
+ghost use Rattle.agreement_laws.specs.Worlds.{trace};
+ghost use Rattle.world_run.specs.Claims.{Claims, Tells};
+ghost use Rattle.world_run.specs.Views.{WorldView, entries, run_in, shown_of, told_of};
+ghost use Rattle.transcript_replay.specs.Completions.{agreeing_with};
+ghost use Rattle.transcript_replay.specs.Runs.{Front, IsOutput, IsWorldOf, Whole, is_over};
+
+/// An input has one output with one status at most, and what is printed of a script that was cut off is a front of it.
+pub fn one_output()
+    ensures one { (bytes text other : List ℕ) (status last : ℕ) → IsOutput bytes (Whole status) text → IsOutput bytes (Whole last) other → (text ≡ other) × (status ≡ last) }
+    ensures front { (bytes text other : List ℕ) (status : ℕ) → IsOutput bytes (Whole status) text → IsOutput bytes Front other → (n : ℕ) × (other ≡ take n text) }
+{}
+
+/// An input has an output. So what is written and the status are one, want of memory and faults aside.
+pub fn some_output()
+    ensures some { (bytes : List ℕ) → (text : List ℕ) × (status : ℕ) × IsOutput bytes (Whole status) text }
+{}
+
+/// The world that a script leads to, whatever lines are in it, is sound: each completion with a claim has a partner, no run agrees
+/// with two of them, and no secret is derivable. It speaks of what was read, so of runs that were cut off too.
+pub fn worlds_of_scripts_are_sound()
+    ensures sound { (bytes : List ℕ) (w : WorldView) → IsWorldOf bytes w → IsSound w.config (trace (entries w.acts)) }
+{}
+
+/// An input within the limits leads to a world, and to one only.
+pub fn scripts_lead_to_one_world()
+    ensures some { (bytes : List ℕ) → is_over bytes ≡ false → (w : WorldView) × IsWorldOf bytes w }
+    ensures one { (bytes : List ℕ) (v w : WorldView) → IsWorldOf bytes v → IsWorldOf bytes w → v ≡ w }
+{}
+
+/// In the world that a script leads to, each done run with a claim has a partner to be printed, and that one is a run of the world which
+/// agrees with it, as the theory says it.
+pub fn claims_of_scripts_have_partners()
+    ensures partner { (bytes : List ℕ) (w : WorldView) (h : HistoryOf) (c : Happened) (slots : List Slot) → IsWorldOf bytes w → Tells h w → Among c h.happened → Claims w.config c slots → (n : ℕ) × (agreeing_with (told_of w) (shown_of c) ≡ Some n) × (id : RunId) × (run_in w.runs n ≡ Some id) × AgreesAt (trace (entries w.acts)) (peer_of c.head.role) slots (run_of c) id }
+{}
