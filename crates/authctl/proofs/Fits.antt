@@ -1,5 +1,5 @@
 -- The messages of a walk are those of the table, and keep the limits of spellings.
-use Rattle.std.proofs.Common.{◌≡◌, ℕ, ◌≤◌, List, [], ◌∷◌, length, refl, sym, subst, arith}
+use Rattle.std.proofs.Common.{◌≡◌, ℕ, ◌+◌, ◌≤◌, true, List, [], ◌∷◌, length, drop, refl, sym, subst, arith}
 use Rattle.term_values.specs.Lengths.{length_of}
 use Rattle.term_values.specs.Trees.{Tree, depth_of}
 use Rattle.tagged_codec.specs.Grammar.{Fits, IsInLimits}

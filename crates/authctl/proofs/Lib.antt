@@ -1,3 +1,4 @@
+pub mod Completing
 pub mod Fits
 pub mod Numbers
 pub mod Parts

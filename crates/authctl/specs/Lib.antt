@@ -3,3 +3,4 @@ pub mod Offline
 pub mod Online
 pub mod Walks
 pub mod Words
+pub mod Commands

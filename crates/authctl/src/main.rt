@@ -1,6 +1,9 @@
-//! The command line: undisturbed runs, from the words to the printed messages.
+//! The command line: undisturbed runs and scripts, from the words to the printed lines.
 #![tactic(auto)]
 
+mod command;
+#[cfg(test)]
+mod example_tests;
 mod offline;
 mod online;
 mod real;
@@ -9,7 +12,9 @@ mod tests;
 mod walk;
 mod words;
 
-use offline::{DONE, NO_COMMAND, NO_MEMORY, WRITE_FAILED, run_offline};
+use offline::{
+    BAD_LINE, DONE, NO_COMMAND, NO_MEMORY, READ_FAILED, TOO_LONG, WRITE_FAILED, run_offline,
+};
 use online::is_online;
 use real::{Input, Output};
 use std::alloc::Global;
@@ -41,7 +46,10 @@ fn status_of(error: &io::Error) -> u8 {
 /// What a status means, for a person.
 fn reason(status: u8) -> &'static str {
     match status {
-        NO_COMMAND => "usage: authctl walk MECH A B PART",
+        NO_COMMAND => "usage: authctl walk MECH A B PART, or authctl replay < SCRIPT",
+        READ_FAILED => "authctl: standard input couldn't be read",
+        BAD_LINE => "authctl: a line of the script is bad",
+        TOO_LONG => "authctl: the script is longer than 1,048,576 bytes or 4,096 lines",
         WRITE_FAILED => "authctl: standard output couldn't be written",
         _ => "authctl: there isn't enough memory",
     }

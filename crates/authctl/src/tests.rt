@@ -2,7 +2,7 @@ use crate::offline::run_offline;
 use crate::online::is_online;
 use crate::real::{Input, Output, write_whole};
 use crate::{reason, status_of};
-use outside::{MemSink, Sink, Source, SureSink, SureSource};
+use outside::{MemSink, MemSource, Sink, Source, SureSink, SureSource};
 use std::alloc::Global;
 use std::io;
 use std::io::{Read, Write};
@@ -82,6 +82,27 @@ fn undisturbed_walks(rt: HostRuntime) -> Result<(), Fail> {
 }
 
 #[test]
+fn a_script_is_replayed(rt: HostRuntime) -> Result<(), Fail> {
+    let alloc = rt.alloc();
+    let words = words_of(alloc, "replay")?;
+    for (script, status, printed) in [
+        ("", 0, ""),
+        ("party 1 seq\nclock 1 5\n", 0, "clock 1 5\n"),
+        (
+            "party 1 seq\nclock 1 5\nfoo\n",
+            5,
+            "clock 1 5\nbad 3 Grammar\n",
+        ),
+    ] {
+        let mut input = SureSource::new(script.as_bytes().to_vec(alloc)?);
+        let mut out = SureSink::new(alloc);
+        assert_eq!(rt; run_offline(alloc, &words, &mut input, &mut out), status);
+        assert!(rt; out.written() == printed.as_bytes(), "{script}");
+    }
+    Ok(())
+}
+
+#[test]
 fn words_that_are_no_command(rt: HostRuntime) -> Result<(), Fail> {
     let alloc = rt.alloc();
     let lines = [
@@ -112,7 +133,9 @@ fn words_that_are_no_command(rt: HostRuntime) -> Result<(), Fail> {
         "walk P 1 2 PART",
         "walk e2 1 2 PART",
         "Walk E2 1 2 PART",
-        "replay",
+        "replay replay",
+        "Replay",
+        "replay ",
         "sample 16",
         "serve 7000 2 3",
         "help",
@@ -139,7 +162,7 @@ fn words_that_are_no_command(rt: HostRuntime) -> Result<(), Fail> {
 
 #[test]
 fn what_a_person_reads(rt: HostRuntime) {
-    for status in [2, 4, 7] {
+    for status in [2, 3, 4, 5, 6, 7] {
         let line = reason(status);
         assert_eq!(rt; line.starts_with("usage: "), status == 2, "{status}");
         assert!(rt; !line.contains('\n'), "{status}");
@@ -163,6 +186,21 @@ fn a_write_that_fails(rt: HostRuntime) -> Result<(), Fail> {
     assert_eq!(rt; status, 4);
     assert!(rt; out.written().is_empty());
     assert_eq!(rt; out.faults(), 1);
+    Ok(())
+}
+
+#[test]
+fn replays_that_end_early(rt: HostRuntime) -> Result<(), Fail> {
+    let alloc = rt.alloc();
+    let words = words_of(alloc, "replay")?;
+    let long = vec![in alloc; b'\n'; 4097]?;
+    let clock = b"party 1 seq\nclock 1 5\n".to_vec(alloc)?;
+    for (text, reads, writes, status) in [(&clock, 1, 9, 3), (&clock, 9, 1, 4), (&long, 9, 9, 6)] {
+        let mut input = MemSource::new(text.to_vec(alloc)?, vec![in alloc; reads]?);
+        let mut out = MemSink::new(alloc, vec![in alloc; writes]?);
+        assert_eq!(rt; run_offline(alloc, &words, &mut input, &mut out), status);
+        assert!(rt; out.written().is_empty());
+    }
     Ok(())
 }
 

@@ -2,6 +2,7 @@ use Rattle.std.proofs.Common.{◌≡◌, sym, ◌∙◌, ap, get_or, List, ℕ, 
 use Rattle.std.proofs.lemmas.Fmt.{decimal_injective}
 use Rattle.script_text.specs.LineReading.{mech_in}
 use Rattle.script_text.proofs.LineAgain.{mech_in_is}
+use Rattle.script_text.proofs.Spelled.{mech_in_some}
 use Rattle.authctl.proofs.words.read_five.Goals as goal
 
 -- the word is the name of no mechanism that walks may have
