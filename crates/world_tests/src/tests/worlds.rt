@@ -230,35 +230,20 @@ fn answer(rt: &impl Abort, alloc: Global, key: Part) -> Result<Term, Fail> {
     tuple(alloc, &[tag_term(Tag([1, 2, 2, 0])), no_text(alloc)?, item])
 }
 
-#[test]
-fn deliveries_are_refused(rt: HostRuntime) -> Result<(), Fail> {
-    let alloc = rt.alloc();
-    let mut world = world(&rt, alloc, StampKind::Time)?;
-    let hook = any_text(alloc)?;
-    let runs = [
-        (Role::B, 1, 2),
-        (Role::A, 1, 2),
-        (Role::B, 1, 2),
-        (Role::B, 2, 1),
-    ];
-    for (role, a, b) in runs {
-        let opened = open(&rt, alloc, &mut world, Mech::E2, role, a, b);
-        assert!(rt; opened.is_ok());
-    }
-    assert_eq!(rt; world.drop(3), Ok(()));
-    assert_eq!(rt;
-        (world.drop(3), world.drop(0)),
-        (Err(Refusal::EndedRun), Err(Refusal::UnknownRun))
-    );
+/// Gives terms that no run takes: three wait (1 and 4 as B, 2 as A), 3 is over, and there is no fifth.
+fn give_what_is_refused(
+    rt: &impl Abort,
+    alloc: Global,
+    world: &mut World,
+    hook: &Hook,
+) -> Result<(), Fail> {
     let unborn = challenge(alloc, nonce(0xd0, 0, 3))?;
-    let far = challenge(alloc, nonce(0xd0, 1, 0))?;
     let short = tuple(alloc, &[tag_term(Tag([1, 2, 1, 0])), no_text(alloc)?])?;
-    let foreign = answer(&rt, alloc, OWN)?;
-    let secret = answer(&rt, alloc, SHARED)?;
+    let foreign = answer(rt, alloc, OWN)?;
+    let secret = answer(rt, alloc, SHARED)?;
     let refused = [
         (1, &secret, Refusal::NotDerivable),
         (2, &unborn, Refusal::Unborn),
-        (2, &far, Refusal::Unborn),
         (5, &short, Refusal::UnknownRun),
         (0, &short, Refusal::UnknownRun),
         (3, &short, Refusal::EndedRun),
@@ -267,25 +252,45 @@ fn deliveries_are_refused(rt: HostRuntime) -> Result<(), Fail> {
         (2, &short, Refusal::WrongShape { part: 0 }),
     ];
     for (run, term, refusal) in refused {
-        assert_eq!(rt;
-            give(&rt, alloc, &mut world, &hook, run, term),
-            Err(refusal)
-        );
+        assert_eq!(rt; give(rt, alloc, world, hook, run, term), Err(refusal));
     }
+    Ok(())
+}
+
+#[test]
+fn deliveries_are_refused(rt: HostRuntime) -> Result<(), Fail> {
+    let alloc = rt.alloc();
+    let mut world = world(&rt, alloc, StampKind::Time)?;
+    let hook = any_text(alloc)?;
+    for (role, a, b) in [
+        (Role::B, 1, 2),
+        (Role::A, 1, 2),
+        (Role::B, 1, 2),
+        (Role::B, 2, 1),
+    ] {
+        assert!(rt; open(&rt, alloc, &mut world, Mech::E2, role, a, b).is_ok());
+    }
+    assert_eq!(rt; world.drop(3), Ok(()));
+    assert_eq!(rt;
+        (world.drop(3), world.drop(0)),
+        (Err(Refusal::EndedRun), Err(Refusal::UnknownRun))
+    );
+    give_what_is_refused(&rt, alloc, &mut world, &hook)?;
     assert!(rt; pass_on(&rt, alloc, &mut world, &hook, 2, 2).is_ok());
     let other = Refusal::WrongValue {
         part: 1,
         slot: Slot::Rb,
     };
-    assert_eq!(rt; pass_on(&rt, alloc, &mut world, &hook, 1, 4), Err(other));
-    assert_eq!(rt;
-        pass_on(&rt, alloc, &mut world, &hook, 4, 4),
-        Err(Refusal::WrongNames { part: 1 })
-    );
-    assert_eq!(rt;
-        pass_on(&rt, alloc, &mut world, &hook, 2, 1),
-        Err(Refusal::EndedRun)
-    );
+    for (run, message, refusal) in [
+        (1, 4, other),
+        (4, 4, Refusal::WrongNames { part: 1 }),
+        (2, 1, Refusal::EndedRun),
+    ] {
+        assert_eq!(rt;
+            pass_on(&rt, alloc, &mut world, &hook, run, message),
+            Err(refusal)
+        );
+    }
     Ok(())
 }
 
@@ -297,6 +302,11 @@ fn what_was_drawn_or_is_no_draw_is_taken(rt: HostRuntime) -> Result<(), Fail> {
     for role in [Role::B, Role::A, Role::A] {
         assert!(rt; open(&rt, alloc, &mut world, Mech::E2, role, 1, 2).is_ok());
     }
+    let far = challenge(alloc, nonce(0xd0, 1, 0))?;
+    assert_eq!(rt;
+        give(&rt, alloc, &mut world, &hook, 2, &far),
+        Err(Refusal::Unborn)
+    );
     for (run, lead) in [(2, 0xd0), (3, 0xd1)] {
         let term = challenge(alloc, nonce(lead, 0, 0))?;
         assert!(rt; give(&rt, alloc, &mut world, &hook, run, &term).is_ok());
