@@ -189,11 +189,12 @@ fn token(alloc: Global, number: u32) -> Result<String, Fail> {
 fn sequence(alloc: Global, tokens: u32, rest: &str) -> Result<(String, String), Fail> {
     let mut script = filled(alloc, SEQUENCE)?;
     let mut printed = String::new(alloc);
-    for number in 1..tokens + 1 {
+    let first = tokens.saturating_add(1);
+    for number in 1..first {
         script.push_str("open E1 A 1 2\n")?;
         printed.push_str(token(alloc, number)?.as_str())?;
     }
-    for number in tokens + 1..tokens + 4 {
+    for number in first..first.saturating_add(3) {
         script.push_str("open E1 B 1 2\n")?;
         printed.push_str(format!(in alloc; "run {number}\n")?.as_str())?;
     }
