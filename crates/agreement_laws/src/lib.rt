@@ -5,8 +5,6 @@ mod history;
 mod laws;
 mod partners;
 mod sealing;
-#[cfg(test)]
-mod tests;
 
 pub use history::{Happened, History};
 pub use laws::{

@@ -8,8 +8,6 @@ mod knowledge_digest;
 mod knowledge_index;
 mod knowledge_law;
 mod knowledge_taking;
-#[cfg(test)]
-mod knowledge_tests;
 mod laws;
 
 pub use knowledge::Knowledge;

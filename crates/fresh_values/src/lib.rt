@@ -5,8 +5,6 @@ mod counted;
 mod issuer;
 mod laws;
 mod rng_draws;
-#[cfg(test)]
-mod tests;
 
 pub use counted::Counted;
 pub use issuer::{Issuer, StampsSpent};

@@ -20,8 +20,6 @@ mod session_key;
 mod stated;
 mod step;
 mod tables;
-#[cfg(test)]
-mod tests;
 mod texts;
 
 pub use agreement::agreed;

@@ -6,8 +6,6 @@ mod draws;
 mod fault;
 mod sink;
 mod source;
-#[cfg(test)]
-mod tests;
 mod unread;
 
 pub use draws::{Draws, MemDraws};

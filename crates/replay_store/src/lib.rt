@@ -9,8 +9,6 @@ mod ranked;
 mod scans;
 mod seen;
 mod store;
-#[cfg(test)]
-mod tests;
 mod tree;
 mod verdict;
 mod window_store;

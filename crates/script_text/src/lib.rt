@@ -9,8 +9,6 @@ mod printing;
 mod reading;
 mod refusals;
 mod terms;
-#[cfg(test)]
-mod tests;
 
 pub use bad::BadLine;
 pub use line::Line;

@@ -3,8 +3,6 @@
 
 mod laws;
 mod symbolic;
-#[cfg(test)]
-mod tests;
 
 pub use laws::seals_and_checks_are_terms;
 pub use symbolic::Symbolic;

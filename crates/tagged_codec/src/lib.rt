@@ -6,8 +6,6 @@ mod frames;
 mod kinds;
 mod laws;
 mod reading;
-#[cfg(test)]
-mod tests;
 mod writing;
 
 pub use decoding::{DecodeFault, decode, decode_whole};

@@ -6,8 +6,6 @@ mod items;
 mod lengths;
 mod small;
 mod term;
-#[cfg(test)]
-mod tests;
 mod why;
 
 pub use bytes::{Bytes, LongText, Text};

@@ -24,6 +24,3 @@ pub use rule::{Rule, judge_by};
 pub use sealing::{check_item, draw_nonce, seal_item};
 pub use steps::{compose, first, prepare};
 pub use values::{compare_nonce, judge_text, nonce_at, stamp_at, text_at};
-
-#[cfg(test)]
-mod tests;

@@ -1,4 +1,7 @@
-use super::*;
+use mech_rows::{
+    Cover, Mech, Notes, PartFault, Peer, Refusal, Ring, Role, RunHead, Slot, Texts, Under, Value,
+    agreed, body_slots, key_of, passes, row,
+};
 use std::alloc::Global;
 use std::test::Fail;
 use term_values::{Form, Items, Key, Name, Nonce, Part, Stamp, StampKind, Tag, Term, Text, Why};

@@ -1,4 +1,4 @@
-use super::*;
+use outside::{Draws, MemDraws, MemSink, MemSource, Sink, Source, SureSink, SureSource};
 use std::test::Fail;
 
 /// Puts three pieces, and answers which puts failed.

@@ -1,8 +1,10 @@
 //! Worked spellings and the borders of the grammar.
 
-use super::*;
 use std::alloc::Global;
 use std::test::Fail;
+use tagged_codec::{
+    DecodeFault, Deframer, EncodeFault, FrameFault, decode, decode_whole, encode, encode_key, frame,
+};
 use term_values::{Bytes, Form, Items, Key, Part, Term, Why};
 
 /// The challenge of a two-pass walk: its tag, a nonce and an empty text.

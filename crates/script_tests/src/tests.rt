@@ -1,5 +1,5 @@
-use crate::{BadLine, Line, print_refusal, print_term, read_line, read_term};
 use mech_rows::{Refusal, Slot};
+use script_text::{BadLine, Line, print_refusal, print_term, read_line, read_term};
 use std::alloc::Global;
 use std::process::Abort;
 use std::test::Fail;

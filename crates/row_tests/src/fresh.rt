@@ -1,4 +1,4 @@
-use super::*;
+use fresh_values::{Counted, Issuer, RngDraws, StampsSpent};
 use outside::{Draws, Failed};
 use rand_core::{Infallible, TryRng};
 use std::fmt;

@@ -1,4 +1,4 @@
-use crate::Knowledge;
+use attacker_model::Knowledge;
 use std::alloc::Global;
 use std::test::Fail;
 use term_values::{

@@ -1,4 +1,4 @@
-use super::*;
+use seal_symbolic::Symbolic;
 use seal_trait::Sealer;
 use std::test::Fail;
 use term_values::{Bytes, Form, Key, Nonce, Part, Term};

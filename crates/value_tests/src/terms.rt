@@ -1,6 +1,6 @@
-use super::*;
 use std::alloc::Global;
 use std::test::Fail;
+use term_values::{Bytes, Form, Items, Key, Name, Nonce, Part, Stamp, Tag, Term, Text};
 
 const FIRST: Part = Part([0x11; 32]);
 

@@ -1,7 +1,10 @@
-use super::*;
 use mech_rows::{Clear, Mech, Peer, Refusal, Ring, Slot, Texts};
 use std::test::Fail;
 use term_values::{Key, Name, Nonce, Part, Stamp, StampKind, Tag, Term, Text};
+use text_hooks::{
+    Hook, Judgement, Rule, SlotValue, body_of, compare_nonce, judge_by, key_between, message_of,
+    name_term, nonce_term, own_text, read_body, read_message, stamp_term, tag_term, text_term,
+};
 
 #[test]
 fn texts_are_judged(rt: HostRuntime) -> Result<(), Fail> {

@@ -1,5 +1,4 @@
-use crate::history::{Happened, History};
-use crate::partners::partner;
+use agreement_laws::{Happened, History, partner};
 use mech_rows::{Mech, Notes, Role, RunHead, Slot, Value};
 use std::alloc::Global;
 use std::test::Fail;

@@ -1,6 +1,6 @@
 ghost use Rattle.std.specs.Prelude.{◌<◌};
 
-use super::*;
+use replay_store::{ListStore, Store, Verdict, WindowStore};
 use std::process::Abort;
 use std::test::Fail;
 use term_values::{Name, OutOfMemory, Stamp, StampKind, Tag};
