@@ -1,6 +1,5 @@
 //! A desk and its calls, each refusal once, over mechanisms with stamps and with nonces.
-ghost use Rattle.std.specs.Prelude.{◌≡◌, true, None, IfOk};
-ghost use Rattle.mech_rows.specs.declared.kinds.Role.TheVariants.{A, B};
+ghost use Rattle.std.specs.Prelude.{◌≡◌, true, IfOk, IsTrue};
 ghost use Rattle.text_hooks.specs.Rules.{allowed};
 ghost use Rattle.node_desk.specs.Lives.{plays_live};
 
@@ -10,8 +9,8 @@ mod openings;
 mod stamps;
 
 use fresh_values::{Counted, Issuer};
-use mech_rows::{Mech, Peer, Refusal, Ring, Role, RunHead, Slot, Step, Texts};
-use node_desk::{Desk, Live, deliver, make_first, make_step, start};
+use mech_rows::{Mech, Peer, Refusal, Ring, Role, RunHead, Slot, Texts};
+use node_desk::{Desk, deliver, start};
 use outside::Draws;
 use replay_store::WindowStore;
 use seal_symbolic::Symbolic;
@@ -19,87 +18,364 @@ use std::alloc::Global;
 use std::process::Abort;
 use std::test::Fail;
 use tagged_codec::encode;
-use term_values::{Name, Part, Stamp, StampKind, Term, Text};
+use term_values::{Name, OutOfMemory, Part, Stamp, StampKind, Term, Text};
 use text_hooks::{Hook, Judgement, Rule, judge_by};
 
-/// The part that parties 1 and 2 share.
-const PART: Part = Part([0xaa; 32]);
-
-/// A part that some other two share.
-const ALIEN: Part = Part([0xbb; 32]);
-
-/// A run of a mechanism between two parties.
+/// Who has a desk.
 #[derive(Clone, Copy)]
-struct Seat {
-    mech: Mech,
-    role: Role,
-    a: u32,
-    b: u32,
+struct Party {
+    me: u32,
+    /// The party with which it shares a part.
+    other: u32,
+    kind: StampKind,
+    /// Each byte of the part.
+    byte: u8,
+    /// The number of its last stamp.
+    last: u64,
 }
 
-/// A run between parties 1 and 2.
-fn between(mech: Mech, role: Role) -> Seat
-    ensures seat { result ≡ record { mech = mech; role = role; a = 1; b = 2 } }
-{
-    Seat {
-        mech,
-        role,
-        a: 1,
-        b: 2,
+/// Party 1, by the clock.
+const PARTY_1: Party = Party {
+    me: 1,
+    other: 2,
+    kind: StampKind::Time,
+    byte: 0xaa,
+    last: 0,
+};
+
+/// Party 2, by the clock.
+const PARTY_2: Party = Party {
+    me: 2,
+    other: 1,
+    ..PARTY_1
+};
+
+/// Party 1, which shares another part.
+const ALIEN_1: Party = Party {
+    byte: 0xbb,
+    ..PARTY_1
+};
+
+/// Party 1, which shares the part with party 3.
+const STRANGER_1: Party = Party {
+    other: 3,
+    ..PARTY_1
+};
+
+/// Party 1, which counts.
+const COUNTING_1: Party = Party {
+    kind: StampKind::Seq,
+    ..PARTY_1
+};
+
+/// Party 1, which has counted to the end.
+const SPENT_1: Party = Party {
+    last: u64::MAX,
+    ..COUNTING_1
+};
+
+/// Party 2, which has issued its last stamp.
+const SPENT_2: Party = Party {
+    last: u64::MAX,
+    ..PARTY_2
+};
+
+/// The desk of party 1.
+const ONE: usize = 0;
+
+/// The desk of party 2.
+const TWO: usize = 1;
+
+/// The bytes that a run is given.
+#[derive(Clone, Copy)]
+enum Word {
+    /// These.
+    Literal(&'static [u8]),
+    /// Those of the message of that number; the first that was said is 0.
+    Message(usize),
+}
+
+/// What is done at a desk. Clocks come last.
+#[derive(Clone, Copy)]
+enum Act {
+    /// A run of that mechanism is opened, in that role, between parties A and B.
+    Open(Mech, Role, u32, u32),
+    /// The run of that number says its first message.
+    Start(u32, u64),
+    /// The run of that number is given bytes.
+    Give(u32, Word, u64),
+    /// A stamp is issued.
+    Issue(u64),
+    /// The run of that number is dropped.
+    DropRun(u32),
+    /// The run of that number is looked at.
+    Look(u32),
+}
+
+/// What is answered.
+#[derive(Clone, Copy, Debug, PartialEq, Eq)]
+enum Answer {
+    /// The number of the run that is opened.
+    Run(u32),
+    /// A first message, which is said.
+    Said,
+    /// A reply, which is said.
+    Replied,
+    /// No reply.
+    Taken,
+    /// The stamp that is issued.
+    Issued(Stamp),
+    /// Whether the run was open.
+    Dropped(bool),
+    /// The run is open.
+    IsOpen,
+}
+
+/// At which desk something is done, what, what is answered, and how many events its log has then.
+type Row = (usize, Act, Result<Answer, Refusal>, usize);
+
+/// What a story shows, who parties 1 and 2 are, and what is done at their new desks.
+type Story<'a> = (&'static str, Party, Party, &'a [Row]);
+
+/// Desks, and the messages that were said at them.
+#[derive(Drop)]
+struct Room {
+    desks: Vec<Desk<WindowStore>>,
+    said: Vec<Vec<u8>>,
+}
+
+/// The name of that number.
+fn name(rt: &impl Abort, number: u32) -> Name {
+    Name::new(number).expect(rt, "a name")
+}
+
+/// A party that another knows.
+fn peer(rt: &impl Abort, number: u32, server: bool, part: Option<Part>) -> Peer {
+    Peer {
+        name: name(rt, number),
+        server,
+        part,
     }
 }
 
-fn name(number: u32) -> Result<Name, Fail>
-    ensures number { IfOk result (λ n. n ≡ number) }
-{
-    Ok(Name::new(number).ok_or("no name")?)
-}
-
-fn peer(number: u32, server: bool, part: Option<Part>) -> Result<Peer, Fail> {
-    Ok(Peer {
-        name: name(number)?,
-        server,
-        part,
-    })
-}
-
-/// What party `me` knows: party `other`, with which it shares a part, the third party 3, and party 4 without a part.
-fn ring_of(alloc: Global, me: u32, other: u32, kind: StampKind, part: Part) -> Result<Ring, Fail>
-    ensures kind { IfOk result (λ r. r.kind ≡ kind) }
+/// What a party knows: the other one, with which it shares a part, the third party 3, and party 4 without a part.
+fn ring_of(rt: &impl Abort, alloc: Global, party: Party) -> Result<Ring, OutOfMemory>
+    ensures kind { IfOk result (λ r. r.kind ≡ party.kind) }
     ensures window { IfOk result (λ r. r.window ≡ 5000) }
 {
-    let me = name(me)?;
-    let partner = peer(other, false, Some(part))?;
-    let server = peer(3, true, None)?;
-    let keyless = peer(4, false, None)?;
+    let me = name(rt, party.me);
+    let partner = peer(rt, party.other, false, Some(Part([party.byte; 32])));
+    let server = peer(rt, 3, true, None);
+    let keyless = peer(rt, 4, false, None);
     let peers = vec![in alloc; partner, server, keyless]?;
     Ok(Ring {
         me,
         server: false,
-        kind,
+        kind: party.kind,
         window: 5000,
         peers,
     })
 }
 
-/// A party that did nothing yet. Its last stamp has that number.
-fn desk_of(
-    alloc: Global,
-    me: u32,
-    other: u32,
-    kind: StampKind,
-    part: Part,
-    last: u64,
-) -> Result<Desk<WindowStore>, Fail> {
-    let ring = ring_of(alloc, me, other, kind, part)?;
+/// The desk of a party that did nothing yet.
+fn desk_of(rt: &impl Abort, alloc: Global, party: Party) -> Result<Desk<WindowStore>, OutOfMemory> {
+    let ring = ring_of(rt, alloc, party)?;
     let store = WindowStore::new(alloc, 5000);
-    Ok(Desk::new(alloc, ring, Issuer::new(kind, last), store))
+    let issuer = Issuer::new(party.kind, party.last);
+    Ok(Desk::new(alloc, ring, issuer, store))
 }
 
-/// Party 1 or 2, by the clock, which shares the part with the other.
-fn party(alloc: Global, me: u32) -> Result<Desk<WindowStore>, Fail> {
-    let other = if me == 1 { 2 } else { 1 };
-    desk_of(alloc, me, other, StampKind::Time, PART, 0)
+/// The desks of parties that did nothing yet.
+fn desks_of(
+    rt: &impl Abort,
+    alloc: Global,
+    parties: &[Party],
+) -> Result<Vec<Desk<WindowStore>>, OutOfMemory> {
+    let mut desks = Vec::new(alloc);
+    for party in parties {
+        desks.push(desk_of(rt, alloc, *party)?)?;
+    }
+    Ok(desks)
+}
+
+/// Whether a desk may have runs of the head.
+fn is_built(head: &RunHead) -> bool
+    ensures { IsTrue result → plays_live head.now ≡ true }
+{
+    match head.mech {
+        Mech::E1 | Mech::E2 | Mech::E3 | Mech::E4 => true,
+        Mech::C1 | Mech::C2 | Mech::C3 | Mech::C4 => true,
+        _ => false,
+    }
+}
+
+/// A run without texts is opened.
+fn opens(
+    rt: &impl Abort,
+    alloc: Global,
+    desk: &mut Desk<WindowStore>,
+    mech: Mech,
+    role: Role,
+    a: u32,
+    b: u32,
+) -> Result<Answer, Refusal> {
+    let head = RunHead::new(mech, role, name(rt, a), name(rt, b), None).expect(rt, "a head");
+    assert!(rt; is_built(&head));
+    assert!(rt; head.me() == desk.ring().me);
+    let texts = Texts::new(Vec::new(alloc));
+    let run = desk.open_run(&head, &texts)?;
+    Ok(Answer::Run(run))
+}
+
+/// A term, in bytes.
+fn spelled(rt: &impl Abort, alloc: Global, term: &Term) -> Vec<u8> {
+    encode(alloc, term)
+        .ok()
+        .expect(rt, "a term within the limits")
+}
+
+/// A run says its first message.
+fn says(
+    rt: &impl Abort,
+    alloc: Global,
+    desk: &mut Desk<WindowStore>,
+    said: &mut Vec<Vec<u8>>,
+    draws: &mut impl Draws,
+    run: u32,
+    clock: u64,
+) -> Result<Answer, Refusal> {
+    let message = start(alloc, desk, &Symbolic::new(), draws, run, clock)?;
+    said.push(spelled(rt, alloc, &message))?;
+    Ok(Answer::Said)
+}
+
+/// The bytes of a word, after these messages.
+fn bytes_of<'a>(rt: &impl Abort, said: &'a [Vec<u8>], word: Word) -> &'a [u8] {
+    match word {
+        Word::Literal(bytes) => bytes,
+        Word::Message(number) => said.get(number).expect(rt, "a message"),
+    }
+}
+
+/// A run is given bytes.
+fn takes(
+    rt: &impl Abort,
+    alloc: Global,
+    desk: &mut Desk<WindowStore>,
+    said: &mut Vec<Vec<u8>>,
+    hook: &Hook,
+    draws: &mut impl Draws,
+    run: u32,
+    word: Word,
+    clock: u64,
+) -> Result<Answer, Refusal> {
+    let bytes = bytes_of(rt, said, word);
+    let reply = deliver(
+        alloc,
+        desk,
+        &Symbolic::new(),
+        hook,
+        draws,
+        run,
+        bytes,
+        clock,
+    )?;
+    let Some(reply) = reply else {
+        return Ok(Answer::Taken);
+    };
+    said.push(spelled(rt, alloc, &reply))?;
+    Ok(Answer::Replied)
+}
+
+/// A stamp is issued.
+fn issues(desk: &mut Desk<WindowStore>, clock: u64) -> Result<Answer, Refusal> {
+    let stamp = desk.issue(clock)?;
+    Ok(Answer::Issued(stamp))
+}
+
+/// A run is looked at.
+fn looks(desk: &Desk<WindowStore>, run: u32) -> Result<Answer, Refusal> {
+    match desk.look(run).err() {
+        Some(refusal) => Err(refusal),
+        None => Ok(Answer::IsOpen),
+    }
+}
+
+/// Something is done at a desk of the room.
+fn does(
+    rt: &impl Abort,
+    alloc: Global,
+    room: &mut Room,
+    hook: &Hook,
+    draws: &mut impl Draws,
+    at: usize,
+    act: Act,
+) -> Result<Answer, Refusal> {
+    assert!(rt; at < room.desks.len());
+    let desk = &mut room.desks[at];
+    match act {
+        Act::Open(mech, role, a, b) => opens(rt, alloc, desk, mech, role, a, b),
+        Act::Start(run, clock) => says(rt, alloc, desk, &mut room.said, draws, run, clock),
+        Act::Give(run, word, clock) => {
+            takes(
+                rt,
+                alloc,
+                desk,
+                &mut room.said,
+                hook,
+                draws,
+                run,
+                word,
+                clock,
+            )
+        }
+        Act::Issue(clock) => issues(desk, clock),
+        Act::DropRun(run) => Ok(Answer::Dropped(desk.drop_run(run))),
+        Act::Look(run) => looks(desk, run),
+    }
+}
+
+/// How many events the log of a desk has.
+fn logged(rt: &impl Abort, room: &Room, at: usize) -> usize {
+    let desk = room.desks.get(at).expect(rt, "a desk");
+    desk.log().list().len()
+}
+
+/// The rows are done in their order, and answered as they say.
+fn walk(
+    rt: &impl Abort,
+    alloc: Global,
+    room: &mut Room,
+    hook: &Hook,
+    draws: &mut impl Draws,
+    what: &str,
+    rows: &[Row],
+) {
+    for (number, row) in rows.iter().enumerate() {
+        let (at, act, expected, log) = *row;
+        let answer = does(rt, alloc, room, hook, draws, at, act);
+        assert_eq!(rt; answer, expected, "{what}, row {number}");
+        assert_eq!(rt; logged(rt, room, at), log, "{what}, row {number}");
+    }
+}
+
+/// Each story is told in a room of its own.
+fn tell(
+    rt: &impl Abort,
+    alloc: Global,
+    hook: &Hook,
+    draws: &mut impl Draws,
+    stories: &[Story<'_>],
+) -> Result<(), Fail> {
+    for story in stories {
+        let (what, one, two, rows) = *story;
+        let mut room = Room {
+            desks: desks_of(rt, alloc, &[one, two])?,
+            said: Vec::new(alloc),
+        };
+        walk(rt, alloc, &mut room, hook, draws, what, rows);
+    }
+    Ok(())
 }
 
 /// The rule that a text of the first message of C2 begins with that byte.
@@ -123,99 +399,13 @@ fn rules(alloc: Global) -> Result<(Vec<Rule>, Vec<Rule>), Fail>
     Ok((rules, same))
 }
 
-/// A run that begins between two parties.
-fn head_of(seat: Seat) -> Result<RunHead, Fail>
-    ensures head { IfOk result (λ h. h ≡ record { mech = seat.mech; role = seat.role; a = seat.a; b = seat.b; p = None }) }
-{
-    let a = name(seat.a)?;
-    let b = name(seat.b)?;
-    Ok(RunHead::new(seat.mech, seat.role, a, b, None).ok_or("no head")?)
-}
-
-/// What the desk answers to an opening, without texts, by its own name.
-fn opened(
+/// The stories are told where the one rule holds.
+fn play(
+    rt: &impl Abort,
     alloc: Global,
-    desk: &mut Desk<WindowStore>,
-    seat: Seat,
-) -> Result<Result<u32, Refusal>, Fail>
-    requires plays { plays_live (record { mech = seat.mech; role = seat.role; a = seat.a; b = seat.b; p = None }) ≡ true }
-{
-    let head = head_of(seat)?;
-    if head.me() != desk.ring().me {
-        return Err("another party's run".into());
-    }
-    Ok(desk.open_run(&head, &Texts::new(Vec::new(alloc))))
-}
-
-/// The run that is opened.
-fn run_of(alloc: Global, desk: &mut Desk<WindowStore>, seat: Seat) -> Result<u32, Fail>
-    requires plays { plays_live (record { mech = seat.mech; role = seat.role; a = seat.a; b = seat.b; p = None }) ≡ true }
-{
-    Ok(opened(alloc, desk, seat)??)
-}
-
-/// What the desk answers where a run is to say its first message: the message, in bytes.
-fn said(
-    alloc: Global,
-    desk: &mut Desk<WindowStore>,
     draws: &mut impl Draws,
-    run: u32,
-    clock: u64,
-) -> Result<Result<Vec<u8>, Refusal>, Fail> {
-    match start(alloc, desk, &Symbolic::new(), draws, run, clock) {
-        Ok(message) => Ok(Ok(encode(alloc, &message)?)),
-        Err(refusal) => Ok(Err(refusal)),
-    }
-}
-
-/// A run's first message, in bytes.
-fn started(
-    alloc: Global,
-    desk: &mut Desk<WindowStore>,
-    draws: &mut Counted,
-    run: u32,
-    clock: u64,
-) -> Result<Vec<u8>, Fail> {
-    Ok(said(alloc, desk, draws, run, clock)??)
-}
-
-/// A new run of party 2 that says its first message now: the message, in bytes.
-fn begun(alloc: Global, two: &mut Desk<WindowStore>, mech: Mech) -> Result<Vec<u8>, Fail>
-    requires plays { plays_live (record { mech = mech; role = B; a = 1; b = 2; p = None }) ≡ true }
-{
-    let run = run_of(alloc, two, between(mech, Role::B))?;
-    started(alloc, two, &mut Counted::new(), run, 1)
-}
-
-/// A new run of party 1 says its first message at that clock: the message, in bytes.
-fn told(alloc: Global, one: &mut Desk<WindowStore>, mech: Mech, clock: u64) -> Result<Vec<u8>, Fail>
-    requires plays { plays_live (record { mech = mech; role = A; a = 1; b = 2; p = None }) ≡ true }
-{
-    let run = run_of(alloc, one, between(mech, Role::A))?;
-    started(alloc, one, &mut Counted::new(), run, clock)
-}
-
-/// An answer, in bytes.
-fn in_bytes(
-    alloc: Global,
-    answer: Result<Option<Term>, Refusal>,
-) -> Result<Result<Option<Vec<u8>>, Refusal>, Fail> {
-    match answer {
-        Ok(Some(reply)) => Ok(Ok(Some(encode(alloc, &reply)?))),
-        Ok(None) => Ok(Ok(None)),
-        Err(refusal) => Ok(Err(refusal)),
-    }
-}
-
-/// What the desk answers to bytes: the reply, in bytes.
-fn given(
-    alloc: Global,
-    desk: &mut Desk<WindowStore>,
-    draws: &mut impl Draws,
-    run: u32,
-    bytes: &[u8],
-    clock: u64,
-) -> Result<Result<Option<Vec<u8>>, Refusal>, Fail> {
+    stories: &[Story<'_>],
+) -> Result<(), Fail> {
     let (rules, same) = rules(alloc)?;
     let judgement: Judgement = Box::new(
         alloc,
@@ -224,71 +414,5 @@ fn given(
         { judge_by(&same, mech, slot, text) },
     )?;
     let hook = Hook::new(rules, judgement);
-    let sealer = Symbolic::new();
-    let answer = deliver(alloc, desk, &sealer, &hook, draws, run, bytes, clock);
-    in_bytes(alloc, answer)
-}
-
-/// The desk takes bytes, and answers that reply, in bytes.
-fn replied(
-    alloc: Global,
-    desk: &mut Desk<WindowStore>,
-    draws: &mut Counted,
-    run: u32,
-    bytes: &[u8],
-    clock: u64,
-) -> Result<Vec<u8>, Fail> {
-    Ok(given(alloc, desk, draws, run, bytes, clock)??.ok_or("no reply")?)
-}
-
-/// The desk takes bytes, and answers nothing.
-fn takes(
-    rt: &impl Abort,
-    alloc: Global,
-    desk: &mut Desk<WindowStore>,
-    run: u32,
-    bytes: &[u8],
-    clock: u64,
-) -> Result<(), Fail> {
-    let reply = given(alloc, desk, &mut Counted::new(), run, bytes, clock)??;
-    assert!(rt; reply.is_none());
-    Ok(())
-}
-
-/// The desk refuses bytes so, and enters nothing.
-fn refuses(
-    rt: &impl Abort,
-    alloc: Global,
-    desk: &mut Desk<WindowStore>,
-    run: u32,
-    bytes: &[u8],
-    clock: u64,
-    refusal: Refusal,
-) -> Result<(), Fail> {
-    let before = desk.log().list().len();
-    let answer = given(alloc, desk, &mut Counted::new(), run, bytes, clock)?;
-    is_refused(rt, answer.err(), refusal);
-    assert_eq!(rt; desk.log().list().len(), before);
-    Ok(())
-}
-
-/// A run of the desk says no first message now, and is refused so.
-fn refuses_to_say(
-    rt: &impl Abort,
-    alloc: Global,
-    desk: &mut Desk<WindowStore>,
-    run: u32,
-    refusal: Refusal,
-) -> Result<(), Fail> {
-    let answer = said(alloc, desk, &mut Counted::new(), run, 1)?;
-    is_refused(rt, answer.err(), refusal);
-    Ok(())
-}
-
-/// That the answer is this refusal.
-fn is_refused(rt: &impl Abort, answer: Option<Refusal>, refusal: Refusal) {
-    assert!(rt;
-        answer == Some(refusal),
-        "{answer:?} in place of {refusal:?}"
-    );
+    tell(rt, alloc, &hook, draws, stories)
 }

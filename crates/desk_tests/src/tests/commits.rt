@@ -3,6 +3,8 @@ ghost use Rattle.std.specs.Prelude.{◌≡◌, []};
 ghost use Rattle.text_hooks.specs.Rules.{allowed};
 
 use super::*;
+use mech_rows::Step;
+use node_desk::{Live, make_first, make_step};
 
 /// What a step's commit answers, which is what it is judged to be.
 fn committed(
@@ -76,6 +78,14 @@ fn stales(
     assert_eq!(rt; desk.log().list().len(), 2);
 }
 
+/// That the answer is this refusal.
+fn is_refused(rt: &impl Abort, answer: Option<Refusal>, refusal: Refusal) {
+    assert!(rt;
+        answer == Some(refusal),
+        "{answer:?} in place of {refusal:?}"
+    );
+}
+
 /// Party 1 commits the one of two steps that answer the first message of party 2.
 fn commits_one(
     rt: &impl Abort,
@@ -83,66 +93,95 @@ fn commits_one(
     one: &mut Desk<WindowStore>,
     first: &[u8],
 ) -> Result<(), Fail> {
-    let a = run_of(alloc, one, between(Mech::C4, Role::A))?;
-    let (step, older) = made_twice(alloc, one, a, first)?;
-    stales(rt, one, a, step, older);
+    let opened = opens(rt, alloc, one, Mech::C4, Role::A, 1, 2);
+    assert_eq!(rt; opened, Ok(Answer::Run(1)));
+    let (step, older) = made_twice(alloc, one, 1, first)?;
+    stales(rt, one, 1, step, older);
+    Ok(())
+}
+
+/// Party 2 says the first message of a run of C4.
+fn begins(rt: &impl Abort, alloc: Global, said: &mut Vec<Vec<u8>>) -> Result<(), OutOfMemory> {
+    let mut two = desk_of(rt, alloc, PARTY_2)?;
+    let opened = opens(rt, alloc, &mut two, Mech::C4, Role::B, 1, 2);
+    assert_eq!(rt; opened, Ok(Answer::Run(1)));
+    let first = says(rt, alloc, &mut two, said, &mut Counted::new(), 1, 1);
+    assert_eq!(rt; first, Ok(Answer::Said));
     Ok(())
 }
 
 #[test]
 fn a_step_of_an_older_state_is_stale(rt: HostRuntime) -> Result<(), Fail> {
     let alloc = rt.alloc();
-    let mut two = party(alloc, 2)?;
-    let first = begun(alloc, &mut two, Mech::C4)?;
-    let mut one = party(alloc, 1)?;
-    commits_one(&rt, alloc, &mut one, &first)
+    let mut said = Vec::new(alloc);
+    begins(&rt, alloc, &mut said)?;
+    let mut one = desk_of(&rt, alloc, PARTY_1)?;
+    let first = bytes_of(&rt, &said, Word::Message(0));
+    commits_one(&rt, alloc, &mut one, first)
 }
 
-/// A run's first step.
+/// The first step of a desk's first run.
 fn first_step(
-    alloc: Global,
-    desk: &mut Desk<WindowStore>,
-    run: u32,
-) -> Result<Step<Live>, Refusal> {
-    make_first(alloc, desk, &Symbolic::new(), &mut Counted::new(), run, 5)
-}
-
-/// A step suits the desk that made it, and no other.
-fn suits_alone(
     rt: &impl Abort,
     alloc: Global,
-    one: &mut Desk<WindowStore>,
+    desk: &mut Desk<WindowStore>,
+    mech: Mech,
+    role: Role,
+) -> Result<Step<Live>, Refusal> {
+    let opened = opens(rt, alloc, desk, mech, role, 1, 2);
+    assert_eq!(rt; opened, Ok(Answer::Run(1)));
+    make_first(alloc, desk, &Symbolic::new(), &mut Counted::new(), 1, 5)
+}
+
+/// A first step suits the desk that made it, and each of the others or none.
+fn suits_its_maker(
+    rt: &impl Abort,
+    alloc: Global,
+    desk: &mut Desk<WindowStore>,
     others: &[Desk<WindowStore>],
-    run: u32,
+    mech: Mech,
+    role: Role,
+    each: bool,
 ) -> Result<(), Fail> {
-    let step = first_step(alloc, one, run)?;
-    assert!(rt; one.suits(&step));
+    let step = first_step(rt, alloc, desk, mech, role)?;
+    assert!(rt; desk.suits(&step));
     for other in others {
-        assert!(rt; !other.suits(&step));
+        assert!(rt; other.suits(&step) == each);
     }
-    assert!(rt; committed(rt, one, run, step, 5).is_ok());
+    assert!(rt; committed(rt, desk, 1, step, 5).is_ok());
     Ok(())
+}
+
+/// A first step of a party suits its desk, and each of the desks of others or none.
+fn first_step_suits(
+    rt: &impl Abort,
+    alloc: Global,
+    party: Party,
+    others: &[Party],
+    mech: Mech,
+    role: Role,
+    each: bool,
+) -> Result<(), Fail> {
+    let others = desks_of(rt, alloc, others)?;
+    let mut desk = desk_of(rt, alloc, party)?;
+    suits_its_maker(rt, alloc, &mut desk, &others, mech, role, each)
 }
 
 #[test]
 fn a_step_suits_the_desk_that_made_it(rt: HostRuntime) -> Result<(), Fail> {
-    let alloc = rt.alloc();
-    let twin = party(alloc, 1)?;
-    let alien = desk_of(alloc, 1, 2, StampKind::Time, ALIEN, 0)?;
-    let stranger = desk_of(alloc, 1, 3, StampKind::Time, PART, 0)?;
-    let others = vec![in alloc; twin, alien, stranger]?;
-    let mut one = party(alloc, 1)?;
-    let a = run_of(alloc, &mut one, between(Mech::E1, Role::A))?;
-    suits_alone(&rt, alloc, &mut one, &others, a)
+    let others = [PARTY_1, ALIEN_1, STRANGER_1];
+    first_step_suits(&rt, rt.alloc(), PARTY_1, &others, Mech::E1, Role::A, false)
 }
 
 #[test]
 fn a_step_under_no_key_suits_another_desk(rt: HostRuntime) -> Result<(), Fail> {
-    let alloc = rt.alloc();
-    let alien = desk_of(alloc, 1, 2, StampKind::Time, ALIEN, 0)?;
-    let mut two = party(alloc, 2)?;
-    let b = run_of(alloc, &mut two, between(Mech::E2, Role::B))?;
-    let step = first_step(alloc, &mut two, b)?;
-    assert!(rt; alien.suits(&step));
-    Ok(())
+    first_step_suits(
+        &rt,
+        rt.alloc(),
+        PARTY_2,
+        &[ALIEN_1],
+        Mech::E2,
+        Role::B,
+        true,
+    )
 }

@@ -1,97 +1,78 @@
 //! Runs are opened up to the limits, and dropped; stamps are issued.
-ghost use Rattle.std.specs.Prelude.{◌≡◌};
-ghost use Rattle.mech_rows.specs.declared.kinds.Mech.TheVariants.{E2};
-ghost use Rattle.mech_rows.specs.declared.kinds.Role.TheVariants.{A};
 
+use super::Act::{DropRun, Issue, Look, Open};
+use super::Answer::{Dropped, IsOpen, Issued, Run};
 use super::*;
+use mech_rows::Mech::E2;
+use mech_rows::Role::A;
 
-fn seat(b: u32) -> Seat
-    ensures seat { result ≡ record { mech = E2; role = A; a = 2; b = b } }
-{
-    Seat {
-        mech: Mech::E2,
-        role: Role::A,
-        a: 2,
-        b,
-    }
-}
+/// Openings by party 2.
+static OPENINGS: [Story<'static>; 1] = [(
+    "openings are refused in their order",
+    PARTY_1,
+    PARTY_2,
+    &[
+        (TWO, Open(E2, A, 2, 5), Err(Refusal::UnknownParty), 0),
+        (TWO, Open(E2, A, 2, 3), Err(Refusal::WrongKind), 0),
+        (TWO, Open(E2, A, 2, 2), Err(Refusal::SelfPeer), 0),
+        (TWO, Open(E2, A, 2, 4), Err(Refusal::NoKey), 0),
+    ],
+)];
 
 #[test]
-fn openings_are_refused_in_their_order(rt: HostRuntime) -> Result<(), Fail> {
-    let alloc = rt.alloc();
-    let mut desk = party(alloc, 2)?;
-    let refused = [
-        (5, Refusal::UnknownParty),
-        (3, Refusal::WrongKind),
-        (2, Refusal::SelfPeer),
-        (4, Refusal::NoKey),
-    ];
-    for (b, refusal) in refused {
-        is_refused(&rt, opened(alloc, &mut desk, seat(b))?.err(), refusal);
-    }
-    assert_eq!(rt; desk.log().list().len(), 0);
-    Ok(())
+fn openings_are_refused(rt: HostRuntime) -> Result<(), Fail> {
+    play(&rt, rt.alloc(), &mut Counted::new(), &OPENINGS)
 }
 
-/// Opens a run, which has that number.
-fn opens(
-    rt: &impl Abort,
-    alloc: Global,
-    desk: &mut Desk<WindowStore>,
-    run: u32,
-) -> Result<(), Fail> {
-    assert_eq!(rt; run_of(alloc, desk, seat(1))?, run);
-    Ok(())
-}
-
-/// Why a run is not open.
-fn ended(desk: &Desk<WindowStore>, run: u32) -> Option<Refusal> {
-    desk.look(run).err()
-}
-
-/// The runs 5 and 1025 are not open, and the run 1024 is.
-fn are_ended(rt: &impl Abort, desk: &mut Desk<WindowStore>) {
-    assert!(rt; !desk.drop_run(5));
-    assert!(rt; !desk.drop_run(1025));
-    is_refused(rt, ended(desk, 5), Refusal::EndedRun);
-    is_refused(rt, ended(desk, 1025), Refusal::UnknownRun);
-    assert!(rt; ended(desk, 1024).is_none());
-}
+/// What is done at a desk with 1,024 open runs.
+static FULL: [Row; 8] = [
+    (TWO, Open(E2, A, 2, 1), Err(Refusal::TableFull), 1024),
+    (TWO, DropRun(5), Ok(Dropped(true)), 1025),
+    (TWO, DropRun(5), Ok(Dropped(false)), 1025),
+    (TWO, DropRun(1025), Ok(Dropped(false)), 1025),
+    (TWO, Look(5), Err(Refusal::EndedRun), 1025),
+    (TWO, Look(1025), Err(Refusal::UnknownRun), 1025),
+    (TWO, Look(1024), Ok(IsOpen), 1025),
+    (TWO, Open(E2, A, 2, 1), Ok(Run(1025)), 1026),
+];
 
 #[test]
 fn no_more_than_1024_runs_are_open(rt: HostRuntime) -> Result<(), Fail> {
     let alloc = rt.alloc();
-    let mut desk = party(alloc, 2)?;
-    for run in 1..1025 {
-        opens(&rt, alloc, &mut desk, run)?;
+    let mut rows = Vec::new(alloc);
+    for run in 1..1025u32 {
+        rows.push((TWO, Open(E2, A, 2, 1), Ok(Run(run)), run as usize))?;
     }
-    is_refused(
-        &rt,
-        opened(alloc, &mut desk, seat(1))?.err(),
-        Refusal::TableFull,
+    rows.extend_from_slice(&FULL)?;
+    let story = (
+        "no more than 1,024 runs are open",
+        PARTY_1,
+        PARTY_2,
+        rows.as_slice(),
     );
-    assert!(rt; desk.drop_run(5));
-    are_ended(&rt, &mut desk);
-    opens(&rt, alloc, &mut desk, 1025)?;
-    assert_eq!(rt; desk.log().list().len(), 1026);
-    Ok(())
+    play(&rt, alloc, &mut Counted::new(), &[story])
 }
 
-#[test]
-fn stamps_rise(rt: HostRuntime) -> Result<(), Fail> {
-    let alloc = rt.alloc();
-    let mut desk = party(alloc, 2)?;
-    assert_eq!(rt; desk.issue(7)?, Stamp::Time(7));
-    assert_eq!(rt; desk.issue(3)?, Stamp::Time(8));
-    assert_eq!(rt; desk.log().list().len(), 2);
-    Ok(())
-}
+/// Stamps that party 2 issues.
+static ISSUES: [Story<'static>; 2] = [
+    (
+        "stamps rise",
+        PARTY_1,
+        PARTY_2,
+        &[
+            (TWO, Issue(7), Ok(Issued(Stamp::Time(7))), 1),
+            (TWO, Issue(3), Ok(Issued(Stamp::Time(8))), 2),
+        ],
+    ),
+    (
+        "no stamp is issued after the last",
+        PARTY_1,
+        SPENT_2,
+        &[(TWO, Issue(7), Err(Refusal::StampsSpent), 0)],
+    ),
+];
 
 #[test]
-fn no_stamp_is_issued_after_the_last(rt: HostRuntime) -> Result<(), Fail> {
-    let alloc = rt.alloc();
-    let mut desk = desk_of(alloc, 2, 1, StampKind::Time, PART, u64::MAX)?;
-    is_refused(&rt, desk.issue(7).err(), Refusal::StampsSpent);
-    assert_eq!(rt; desk.log().list().len(), 0);
-    Ok(())
+fn stamps_are_issued(rt: HostRuntime) -> Result<(), Fail> {
+    play(&rt, rt.alloc(), &mut Counted::new(), &ISSUES)
 }

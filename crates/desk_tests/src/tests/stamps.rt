@@ -1,120 +1,134 @@
 //! Received stamps are judged at the greater of now and the clock, and a refused one leaves now.
 
+use super::Act::{Give, Issue, Open, Start};
+use super::Answer::{Issued, Run, Said, Taken};
+use super::Word::Message;
 use super::*;
+use mech_rows::Mech::{E1, E3};
+use mech_rows::Role::{A, B};
+use mech_rows::Slot::Ta;
 
-/// Party 2 takes it in a run of its own.
-fn hears(
-    rt: &impl Abort,
-    alloc: Global,
-    two: &mut Desk<WindowStore>,
-    message: &[u8],
-    clock: u64,
-) -> Result<(), Fail> {
-    let run = run_of(alloc, two, between(Mech::E1, Role::B))?;
-    takes(rt, alloc, two, run, message, clock)
-}
+/// A stamp of 10,000, which is one too far ahead.
+const EARLY: Refusal = Refusal::Early {
+    slot: Ta,
+    at: 4_999,
+};
 
-/// Party 2 refuses a message of 10,000 before and after its window and a second time, and judges it at its own now.
-fn judges(
-    rt: &impl Abort,
-    alloc: Global,
-    two: &mut Desk<WindowStore>,
-    message: &[u8],
-) -> Result<(), Fail> {
-    let run = run_of(alloc, two, between(Mech::E1, Role::B))?;
-    let slot = Slot::Ta;
-    let early = Refusal::Early { slot, at: 4_999 };
-    refuses(rt, alloc, two, run, message, 4_999, early)?;
-    let late = Refusal::Late { slot, at: 15_001 };
-    refuses(rt, alloc, two, run, message, 15_001, late)?;
-    hears(rt, alloc, two, message, 5_000)?;
-    let stamp = Stamp::Time(10_000);
-    let repeated = Refusal::Repeated { stamp };
-    refuses(rt, alloc, two, run, message, 15_000, repeated)?;
-    two.issue(15_001)?;
-    refuses(rt, alloc, two, run, message, 5_000, late)
-}
+/// A stamp of 10,000, which is one too far behind.
+const LATE: Refusal = Refusal::Late {
+    slot: Ta,
+    at: 15_001,
+};
+
+/// A stamp of 10,000, for the second time.
+const REPEATED: Refusal = Refusal::Repeated {
+    stamp: Stamp::Time(10_000),
+};
+
+/// Party 2 receives a stamp of party 1.
+static RECEIVED: [Story<'static>; 3] = [
+    (
+        "late, early and repeated stamps are refused",
+        PARTY_1,
+        PARTY_2,
+        &[
+            (ONE, Open(E1, A, 1, 2), Ok(Run(1)), 1),
+            (ONE, Start(1, 10_000), Ok(Said), 3),
+            (TWO, Open(E1, B, 1, 2), Ok(Run(1)), 1),
+            (TWO, Give(1, Message(0), 4_999), Err(EARLY), 1),
+            (TWO, Give(1, Message(0), 15_001), Err(LATE), 1),
+            (TWO, Open(E1, B, 1, 2), Ok(Run(2)), 2),
+            (TWO, Give(2, Message(0), 5_000), Ok(Taken), 3),
+            (TWO, Give(1, Message(0), 15_000), Err(REPEATED), 3),
+            (TWO, Issue(15_001), Ok(Issued(Stamp::Time(15_001))), 4),
+            (TWO, Give(1, Message(0), 5_000), Err(LATE), 4),
+        ],
+    ),
+    (
+        "stamps of the other kind are refused",
+        COUNTING_1,
+        PARTY_2,
+        &[
+            (ONE, Open(E1, A, 1, 2), Ok(Run(1)), 1),
+            (ONE, Start(1, 1), Ok(Said), 3),
+            (TWO, Open(E1, B, 1, 2), Ok(Run(1)), 1),
+            (
+                TWO,
+                Give(1, Message(0), 1),
+                Err(Refusal::WrongStampKind { slot: Ta }),
+                1,
+            ),
+        ],
+    ),
+    (
+        "a stamp that was issued stays where the received one is refused",
+        PARTY_1,
+        PARTY_2,
+        &[
+            (ONE, Open(E3, A, 1, 2), Ok(Run(1)), 1),
+            (ONE, Start(1, 10_000), Ok(Said), 3),
+            (TWO, Open(E3, B, 1, 2), Ok(Run(1)), 1),
+            (TWO, Give(1, Message(0), 15_001), Err(LATE), 2),
+        ],
+    ),
+];
 
 #[test]
-fn late_early_and_repeated_stamps_are_refused(rt: HostRuntime) -> Result<(), Fail> {
-    let alloc = rt.alloc();
-    let mut one = party(alloc, 1)?;
-    let mut two = party(alloc, 2)?;
-    let message = told(alloc, &mut one, Mech::E1, 10_000)?;
-    judges(&rt, alloc, &mut two, &message)
+fn received_stamps_are_judged(rt: HostRuntime) -> Result<(), Fail> {
+    play(&rt, rt.alloc(), &mut Counted::new(), &RECEIVED)
 }
 
-#[test]
-fn stamps_of_the_other_kind_are_refused(rt: HostRuntime) -> Result<(), Fail> {
-    let alloc = rt.alloc();
-    let mut one = desk_of(alloc, 1, 2, StampKind::Seq, PART, 0)?;
-    let mut two = party(alloc, 2)?;
-    let message = told(alloc, &mut one, Mech::E1, 1)?;
-    let run = run_of(alloc, &mut two, between(Mech::E1, Role::B))?;
-    let kind = Refusal::WrongStampKind { slot: Slot::Ta };
-    refuses(&rt, alloc, &mut two, run, &message, 1, kind)
-}
+/// What is done after 4,096 rounds: the store is full, and takes a message once a stamp has left it.
+static FULL: [Row; 6] = [
+    (ONE, Open(E1, A, 1, 2), Ok(Run(4097)), 12_289),
+    (ONE, Start(4097, 4_097), Ok(Said), 12_291),
+    (TWO, Open(E1, B, 1, 2), Ok(Run(4097)), 8_193),
+    (
+        TWO,
+        Give(4097, Message(4096), 5_001),
+        Err(Refusal::StoreFull { count: 4096 }),
+        8_193,
+    ),
+    (TWO, Open(E1, B, 1, 2), Ok(Run(4098)), 8_194),
+    (TWO, Give(4098, Message(4096), 5_002), Ok(Taken), 8_195),
+];
 
-/// Party 1 tells party 2 one stamp, and it is taken.
-fn passes_on(
-    rt: &impl Abort,
-    alloc: Global,
-    one: &mut Desk<WindowStore>,
-    two: &mut Desk<WindowStore>,
-    clock: u64,
-) -> Result<(), Fail> {
-    let message = told(alloc, one, Mech::E1, clock)?;
-    hears(rt, alloc, two, &message, clock)
-}
-
-/// Party 2, whose store is full, takes a message once a stamp has left it.
-fn is_full(
-    rt: &impl Abort,
-    alloc: Global,
-    two: &mut Desk<WindowStore>,
-    message: &[u8],
-) -> Result<(), Fail> {
-    let run = run_of(alloc, two, between(Mech::E1, Role::B))?;
-    let full = Refusal::StoreFull { count: 4096 };
-    refuses(rt, alloc, two, run, message, 5_001, full)?;
-    hears(rt, alloc, two, message, 5_002)
+/// In the round after so many, party 1 tells party 2 one stamp, and it is taken.
+fn add_round(rows: &mut Vec<Row>, before: usize, run: u32, clock: u64) -> Result<(), OutOfMemory> {
+    let told = before.saturating_mul(3);
+    let heard = before.saturating_mul(2);
+    rows.extend_from_slice(&[
+        (ONE, Open(E1, A, 1, 2), Ok(Run(run)), told.saturating_add(1)),
+        (ONE, Start(run, clock), Ok(Said), told.saturating_add(3)),
+        (
+            TWO,
+            Open(E1, B, 1, 2),
+            Ok(Run(run)),
+            heard.saturating_add(1),
+        ),
+        (
+            TWO,
+            Give(run, Message(before), clock),
+            Ok(Taken),
+            heard.saturating_add(2),
+        ),
+    ])
 }
 
 #[test]
 fn no_more_than_4096_stamps_of_a_sender_live(rt: HostRuntime) -> Result<(), Fail> {
     let alloc = rt.alloc();
-    let mut one = party(alloc, 1)?;
-    let mut two = party(alloc, 2)?;
-    for clock in 1..4097 {
-        passes_on(&rt, alloc, &mut one, &mut two, clock)?;
+    let mut rows = Vec::new(alloc);
+    for before in 0..4096u32 {
+        let run = before.saturating_add(1);
+        add_round(&mut rows, before as usize, run, u64::from(run))?;
     }
-    let message = told(alloc, &mut one, Mech::E1, 4_097)?;
-    is_full(&rt, alloc, &mut two, &message)
-}
-
-/// Party 2 refuses a message that is too late after it has issued the stamp of its answer.
-fn issues_and_refuses(
-    rt: &impl Abort,
-    alloc: Global,
-    two: &mut Desk<WindowStore>,
-    message: &[u8],
-) -> Result<(), Fail> {
-    let run = run_of(alloc, two, between(Mech::E3, Role::B))?;
-    let before = two.log().list().len();
-    let answer = given(alloc, two, &mut Counted::new(), run, message, 15_001)?;
-    let slot = Slot::Ta;
-    is_refused(rt, answer.err(), Refusal::Late { slot, at: 15_001 });
-    assert_eq!(rt; two.log().list().len(), before + 1);
-    Ok(())
-}
-
-#[test]
-fn a_stamp_that_was_issued_stays_where_the_received_one_is_refused(
-    rt: HostRuntime,
-) -> Result<(), Fail> {
-    let alloc = rt.alloc();
-    let mut one = party(alloc, 1)?;
-    let message = told(alloc, &mut one, Mech::E3, 10_000)?;
-    let mut two = party(alloc, 2)?;
-    issues_and_refuses(&rt, alloc, &mut two, &message)
+    rows.extend_from_slice(&FULL)?;
+    let story = (
+        "no more than 4,096 stamps live",
+        PARTY_1,
+        PARTY_2,
+        rows.as_slice(),
+    );
+    play(&rt, alloc, &mut Counted::new(), &[story])
 }

@@ -1,5 +1,0 @@
-//! Tests of terms, lines and refusals as text.
-#![tactic(auto)]
-
-#[cfg(test)]
-mod tests;
