@@ -1,5 +1,6 @@
 pub mod Adding
 pub mod Answering
+pub mod Claimed
 pub mod Completing
 pub mod Counting
 pub mod Cuts

@@ -1,5 +1,5 @@
 -- The world that an input leads to is sound, and each input has an output.
-use Rattle.std.proofs.Common.{◌≡◌, ◌⊎◌, inl, inr, ℕ, suc, ◌+◌, ◌≤◌, ◌<◌, ◌||◌, nat_lt, List, [], ◌∷◌, ◌++◌, length, take, Bool, true, false, Option, Some, Result, Ok, Err, refl, sym, ap, subst, ◌∙◌, arith, rules, tests}
+use Rattle.std.proofs.Common.{◌≡◌, ◌⊎◌, inl, inr, ℕ, zero, suc, ◌+◌, ◌≤◌, ◌<◌, ◌||◌, nat_lt, List, [], ◌∷◌, ◌++◌, length, take, Bool, true, false, Option, Some, Result, Ok, Err, refl, sym, ap, subst, ◌∙◌, arith, rules, tests}
 use Rattle.std.proofs.lemmas.Bool.{ltb-false}
 use Rattle.std.specs.Io.KnownBytes.{Appends}
 use Rattle.term_values.specs.Trees.{Among, Bytes, Tree}
@@ -40,7 +40,7 @@ use Rattle.transcript_replay.specs.Completions.{agreeing_with}
 use Rattle.transcript_replay.specs.Cuts.{lines_of}
 use Rattle.transcript_replay.specs.Players.{Player, beginning, fresh, nobody, set_up, started, with_own, with_pair, with_party}
 use Rattle.transcript_replay.specs.Printed.{bad_line}
-use Rattle.transcript_replay.specs.Runs.{Breaks, Does, End, Front, Goes, IsBad, IsOutput, IsWorldOf, LeadsTo, Runs, Whole, is_over}
+use Rattle.transcript_replay.specs.Runs.{Breaks, Does, End, Front, Goes, IsBad, IsOutput, IsWorldOf, LeadsTo, Runs, Whole, is_over, IsWorldAfter}
 use Rattle.transcript_replay.specs.Said.{IsPlayable, Says, is_setting}
 use Rattle.transcript_replay.proofs.Adding.{nobody_kept}
 use Rattle.transcript_replay.proofs.Decided.{OrNot, line_decided}
@@ -180,12 +180,36 @@ some_world bytes e =
 
 -- ---- each claim of a script's world has its partner
 
+few_taken : {X : Type 0} (k : ℕ) (xs : List X) → length (take k xs) ≤ length xs
+few_taken zero xs = omega arith
+few_taken (suc k) [] = omega arith
+few_taken (suc k) (x ∷ xs) = let r = few_taken k xs in omega (arith, r)
+
+partner_in : (w : WorldView) (h : HistoryOf) (c : Happened) (slots : List Slot) → IsGenuine w → Tells h w → Among c h.happened → Claims w.config c slots
+    → (n : ℕ) × (agreeing_with (told_of w) (shown_of c) ≡ Some n) × (id : RunId) × (run_in w.runs n ≡ Some id) × AgreesAt (trace (entries w.acts)) (peer_of c.head.role) slots (run_of c) id
+partner_in w h c slots g tells among claims =
+    let p = some_partner w g h tells c slots among claims in
+    let a = partner_agrees w g h tells c slots p.0 claims.agreed p.1 in
+    (p.0, ap (λ (t : Told). agreeing_with t (shown_of c)) (sym tells) ∙ sym (partner_is h c) ∙ p.1, a.0, a.1, a.2)
+
 pub claim_partner : (bytes : List ℕ) (w : WorldView) (h : HistoryOf) (c : Happened) (slots : List Slot) → IsWorldOf bytes w → Tells h w → Among c h.happened → Claims w.config c slots
     → (n : ℕ) × (agreeing_with (told_of w) (shown_of c) ≡ Some n) × (id : RunId) × (run_in w.runs n ≡ Some id) × AgreesAt (trace (entries w.acts)) (peer_of c.head.role) slots (run_of c) id
 claim_partner bytes w h c slots (short, q, leads, is) tells among claims =
     let few = few_lines bytes short in
     let f = leads_fit 0 fresh (lines_of bytes) q (omega (arith, few)) (fit_begins 0 nobody nobody_kept) leads in
-    let g : IsGenuine w = subst IsGenuine (sym is) f.1.genuine in
-    let p = some_partner w g h tells c slots among claims in
-    let a = partner_agrees w g h tells c slots p.0 claims.agreed p.1 in
-    (p.0, ap (λ (t : Told). agreeing_with t (shown_of c)) (sym tells) ∙ sym (partner_is h c) ∙ p.1, a.0, a.1, a.2)
+    partner_in w h c slots (subst IsGenuine (sym is) f.1.genuine) tells among claims
+
+pub partner_after : (bytes : List ℕ) (k : ℕ) (w : WorldView) (h : HistoryOf) (c : Happened) (slots : List Slot) → IsWorldAfter bytes k w → Tells h w → Among c h.happened → Claims w.config c slots
+    → (n : ℕ) × (agreeing_with (told_of w) (shown_of c) ≡ Some n) × (id : RunId) × (run_in w.runs n ≡ Some id) × AgreesAt (trace (entries w.acts)) (peer_of c.head.role) slots (run_of c) id
+partner_after bytes k w h c slots (short, q, leads, is) tells among claims =
+    let few = few_lines bytes short in
+    let fewer = few_taken k (lines_of bytes) in
+    let f = leads_fit 0 fresh (take k (lines_of bytes)) q (omega (arith, few, fewer)) (fit_begins 0 nobody nobody_kept) leads in
+    partner_in w h c slots (subst IsGenuine (sym is) f.1.genuine) tells among claims
+
+pub world_after_is_sound : (bytes : List ℕ) (k : ℕ) (w : WorldView) → IsWorldAfter bytes k w → IsSound w.config (trace (entries w.acts))
+world_after_is_sound bytes k w (short, q, leads, is) =
+    let few = few_lines bytes short in
+    let fewer = few_taken k (lines_of bytes) in
+    let f = leads_fit 0 fresh (take k (lines_of bytes)) q (omega (arith, few, fewer)) (fit_begins 0 nobody nobody_kept) leads in
+    subst (λ (v : WorldView). IsSound v.config (trace (entries v.acts))) (sym is) (fit_sound f.0 q.world f.1)

@@ -107,3 +107,7 @@ LeadsTo p (l ∷ ls) q =
 -- the world that an input leads to which is not too long, however much of it was printed
 abbrev pub IsWorldOf : List ℕ → WorldView → Type 0
 IsWorldOf bytes w = (is_over bytes ≡ false) × (q : Player) × LeadsTo fresh (lines_of bytes) q × (w ≡ q.world)
+
+-- the world after so many lines of an input which is not too long, up to a bad one, however much of it was printed
+abbrev pub IsWorldAfter : List ℕ → ℕ → WorldView → Type 0
+IsWorldAfter bytes k w = (is_over bytes ≡ false) × (q : Player) × LeadsTo fresh (take k (lines_of bytes)) q × (w ≡ q.world)

@@ -1,7 +1,8 @@
-ghost use Rattle.std.specs.Prelude.{◌≡◌, ℕ, List, Some, false, take};
+ghost use Rattle.std.specs.Prelude.{◌≡◌, ℕ, List, Some, true, false, take};
 ghost use Rattle.term_values.specs.Trees.{Among};
 ghost use Rattle.mech_rows.specs.declared.kinds.Slot.{Slot};
 ghost use Rattle.mech_rows.specs.Facts.{peer_of};
+ghost use Rattle.mech_rows.specs.Rows.{agreed_of};
 ghost use Rattle.agreement_laws.specs.declared.history.Happened.{Happened};
 ghost use Rattle.agreement_laws.specs.Histories.{HistoryOf};
 ghost use Rattle.agreement_laws.specs.Partners.{run_of};
@@ -10,8 +11,8 @@ ghost use Rattle.agreement_laws.specs.Traces.{RunId};
 ghost use Rattle.agreement_laws.specs.Worlds.{trace};
 ghost use Rattle.world_run.specs.Claims.{Claims, Tells};
 ghost use Rattle.world_run.specs.Views.{WorldView, entries, run_in, shown_of, told_of};
-ghost use Rattle.transcript_replay.specs.Completions.{agreeing_with};
-ghost use Rattle.transcript_replay.specs.Runs.{Front, IsOutput, IsWorldOf, Whole, is_over};
+ghost use Rattle.transcript_replay.specs.Completions.{agreeing_with, claim_of, has_claim};
+ghost use Rattle.transcript_replay.specs.Runs.{Front, IsOutput, IsWorldAfter, IsWorldOf, Whole, is_over};
 
 /// An input has one output with one status at most, and what is printed of a script that was cut off is a front of it.
 pub fn one_output()
@@ -40,4 +41,13 @@ pub fn scripts_lead_to_one_world()
 /// agrees with it, as the theory says it.
 pub fn claims_of_scripts_have_partners()
     ensures partner { (bytes : List ℕ) (w : WorldView) (h : HistoryOf) (c : Happened) (slots : List Slot) → IsWorldOf bytes w → Tells h w → Among c h.happened → Claims w.config c slots → (n : ℕ) × (agreeing_with (told_of w) (shown_of c) ≡ Some n) × (id : RunId) × (run_in w.runs n ≡ Some id) × AgreesAt (trace (entries w.acts)) (peer_of c.head.role) slots (run_of c) id }
+{}
+
+/// A run is shown with a claim exactly where it is done and has one, as the theory says it. After each line of a script that is within the
+/// limits, the line of a run that is done and has a claim names a partner: a run of the world then, which agrees with it.
+pub fn printed_claims_have_partners()
+    ensures shown { (w : WorldView) (c : Happened) (slots : List Slot) → Claims w.config c slots → has_claim (told_of w) c.head ≡ true }
+    ensures claims { (w : WorldView) (c : Happened) → c.done ≡ true → has_claim (told_of w) c.head ≡ true → (slots : List Slot) × Claims w.config c slots }
+    ensures partner { (bytes : List ℕ) (k : ℕ) (w : WorldView) (h : HistoryOf) (c : Happened) → IsWorldAfter bytes k w → Tells h w → Among c h.happened → c.done ≡ true → has_claim (told_of w) c.head ≡ true → (n : ℕ) × (claim_of (told_of w) (shown_of c) ≡ Some (Some n)) × (slots : List Slot) × (agreed_of c.head.mech c.head.role ≡ Some slots) × (id : RunId) × (run_in w.runs n ≡ Some id) × AgreesAt (trace (entries w.acts)) (peer_of c.head.role) slots (run_of c) id }
+    ensures sound { (bytes : List ℕ) (k : ℕ) (w : WorldView) → IsWorldAfter bytes k w → IsSound w.config (trace (entries w.acts)) }
 {}

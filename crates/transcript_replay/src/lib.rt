@@ -17,8 +17,8 @@ mod setup;
 mod stop;
 
 pub use laws::{
-    claims_of_scripts_have_partners, one_output, scripts_lead_to_one_world, some_output,
-    worlds_of_scripts_are_sound,
+    claims_of_scripts_have_partners, one_output, printed_claims_have_partners,
+    scripts_lead_to_one_world, some_output, worlds_of_scripts_are_sound,
 };
 pub use reason::Reason;
 pub use script::replay;
