@@ -76,6 +76,9 @@ message_fits ts os a m room =
       length = let l = length_of_spelling (tuple (trees (ts ++ items_in os))) f in omega (arith, l, w.short, room);
     }
 
+pub one_fits : (ts now : List Tree) (o : Opening) (t : Tree) → now ≡ ts ++ t ∷ [] → t ≡ o.item → AreSmall 1027 ts → IsMadeItem o.item → length ts ≤ 5 → IsInLimits (tuple (trees now))
+one_fits ts now o t is copy small made few = rw (is, copy) (message_fits ts (o ∷ []) small (made, tt) (omega (arith, few)))
+
 pub pushed_more : {X Y : Type 0} (f : X → Y) (start now next : List Y) (xs : List X) (k : ℕ) (d : X) (y : Y) → now ≡ start ++ map f (take k xs) → next ≡ now ++ y ∷ [] → k < length xs → y ≡ f (get_or xs k d) → next ≡ start ++ map f (take (k + 1) xs)
 pushed_more f start now next xs k d y e g lt is =
     g ∙ (ap₂ (λ (us : List _) (v : _). us ++ v ∷ []) e is ∙ (append_assoc start (map f (take k xs)) (f (get_or xs k d) ∷ []) ∙ ap (λ (us : List _). start ++ us) (sym (ap (map f) (take_more xs k d lt) ∙ map-append f (take k xs) (get_or xs k d ∷ [])))))

@@ -1,5 +1,5 @@
 -- The terms of which bodies and messages are made, and their limits.
-use Rattle.std.specs.Prelude.{ℕ, ◌≤◌, List, [], ◌∷◌, ◌++◌, map}
+use Rattle.std.specs.Prelude.{ℕ, ◌≤◌, List, [], ◌∷◌, ◌++◌, map, Option, Some, None}
 use Rattle.term_values.specs.Trees.{Bytes, Tree, name, nonce, stamp, part, text, tag, tuple, trees, depth_of}
 use Rattle.term_values.specs.Lengths.{length_of}
 use Rattle.tagged_codec.specs.Grammar.{Fits}
@@ -17,6 +17,11 @@ value_term (slot_value.Part b) = part b
 -- a body of this tag: the names, the values, and a text
 abbrev pub body_of : Bytes → List ℕ → List SlotValue → Bytes → Tree
 body_of t ns fs x = tuple (trees (tag t ∷ (map name ns ++ (map value_term fs ++ text x ∷ []))))
+
+-- the terms that show a fresh value, where there is one
+abbrev pub shown_value : Option SlotValue → List Tree
+shown_value (Some f) = value_term f ∷ []
+shown_value None = []
 
 -- the term keeps the limits, has one level, and takes at most so many bytes
 pub record IsSmall (most : ℕ) (t : Tree) : Type 0 where

@@ -73,7 +73,7 @@ pub fn text_term(alloc: Global, value: &Text) -> Result<Term, Refusal>
 }
 
 /// The value as a term. Takes no memory.
-fn value_term(value: &SlotValue) -> Term
+pub(crate) fn value_term(value: &SlotValue) -> Term
     ensures term { result ≡ value_term value.now }
     ensures small { IsSmall 33 result }
 {
@@ -88,7 +88,7 @@ fn value_term(value: &SlotValue) -> Term
 }
 
 /// The tuple of these items. Takes no memory.
-fn tuple_of(items: Vec<Term>) -> Term
+pub(crate) fn tuple_of(items: Vec<Term>) -> Term
     ensures term { result ≡ tuple (trees items.items) }
 {
     Term::of(Form::Tuple(Items::new(items)))

@@ -1,13 +1,14 @@
-ghost use Rattle.std.specs.Prelude.{◌≡◌, ◌↔◌, true, false, IsTrue, IfErr, OnOk};
+ghost use Rattle.std.specs.Prelude.{◌≡◌, ◌≢◌, ◌↔◌, true, false, IsTrue, IfOk, IfErr, OnOk};
 ghost use Rattle.term_values.specs.Trees.{nonce, stamp, text};
 ghost use Rattle.mech_rows.specs.declared.kinds.Kind.TheVariants.{Nonce as a_nonce, Stamp as a_stamp, Text as a_text};
 ghost use Rattle.mech_rows.specs.Same.{same};
 ghost use Rattle.mech_rows.specs.Verdict.{at, has_kind};
-ghost use Rattle.mech_rows.specs.declared.refusal.Refusal.TheVariants.{WrongValue, TextRefused};
+ghost use Rattle.mech_rows.specs.declared.refusal.Refusal.TheVariants.{Memory, WrongValue, TextRefused};
 ghost use Rattle.text_hooks.specs.Rules.{allowed};
 
 use crate::hook::Hook;
 use mech_rows::{Mech, Refusal, Slot};
+use std::alloc::Global;
 use term_values::{Form, Nonce, Stamp, Term, Text};
 
 /// The nonce at place k, where one stands. Takes no memory.
@@ -83,4 +84,24 @@ pub fn judge_text(hook: &Hook, mech: Mech, slot: Slot, text: &Text) -> Result<()
         return Err(Refusal::TextRefused { slot });
     }
     Ok(())
+}
+
+/// A text that was received and is judged.
+///
+/// # Errors
+///
+/// `TextRefused` of that slot, only where the rules refuse it; want of memory.
+pub fn take_text(
+    alloc: Global,
+    hook: &Hook,
+    mech: Mech,
+    slot: Slot,
+    text: &Text,
+) -> Result<Text, Refusal>
+    ensures equal { IfOk result (λ x. x ≡ text.now) }
+    ensures ok { OnOk result (allowed hook.now.rules.items mech slot text.now ≡ true) }
+    ensures refused { IfErr result (λ e. e ≢ Memory → (allowed hook.now.rules.items mech slot text.now ≡ false) × (e ≡ TextRefused slot)) }
+{
+    judge_text(hook, mech, slot, text)?;
+    Ok(text.copy(alloc)?)
 }
