@@ -1,5 +1,8 @@
-ghost use Rattle.std.specs.Prelude.{◌≡◌, ◌↔◌, IsTrue, IfOk};
-ghost use Rattle.roles_9798_2.specs.E1A.{is_e1a};
+ghost use Rattle.std.specs.Prelude.{◌≡◌, ◌↔◌, true, IsTrue, IfOk};
+ghost use Rattle.mech_rows.specs.Notes.{are_of_kinds, terms_of};
+ghost use Rattle.mech_rows.specs.Replies.{in_order};
+ghost use Rattle.roles_9798_2.specs.E1A.{state_of, is_e1a};
+ghost use Rattle.roles_9798_2.specs.declared.e1a.E1A.TheVariants.{Start, Done};
 
 use mech_rows::{Mech, Notes, Refusal, Ring, Role, RunHead, Slot, Stated, Texts, Value};
 use outside::Draws;
@@ -7,8 +10,8 @@ use seal_trait::Sealer;
 use std::alloc::Global;
 use term_values::{Name, OutOfMemory, Stamp, Tag, Term, Text};
 use text_hooks::{
-    Hook, Reply, RoleState, SlotValue, Taken, body_of, key_between, message_of, one_opening,
-    own_text, seal_item, tag_term, text_term,
+    Hook, Reply, RoleState, Said, SlotValue, Taken, body_of, key_between, noted, one_opening,
+    own_text, say_sealed,
 };
 
 /// The parties, and the texts that A sends.
@@ -59,6 +62,27 @@ impl Stated for E1A {
     ghost use Rattle.roles_9798_2.specs.E1A.{state_of as state_of_e1a};
 
     ghost state_of = { state_of_e1a };
+}
+
+/// The notes of a run that sends the first message.
+fn start_notes(alloc: Global, own: &Own) -> Result<Notes, OutOfMemory>
+    ensures notes { IfOk result (λ ns. terms_of ns ≡ in_order (state_of (Start own.now)).notes) }
+    ensures kinds { IfOk result (λ ns. are_of_kinds ns ≡ true) }
+{
+    let notes = noted(alloc, Vec::new(alloc), Slot::X1, &own.x1)?;
+    let notes = noted(alloc, notes, Slot::X2, &own.x2)?;
+    Ok(Notes::new(notes))
+}
+
+/// The notes of a run that has sent the first message.
+fn done_notes(alloc: Global, own: &Own, ta: Stamp) -> Result<Notes, OutOfMemory>
+    ensures notes { IfOk result (λ ns. terms_of ns ≡ in_order (state_of (Done own.now ta)).notes) }
+    ensures kinds { IfOk result (λ ns. are_of_kinds ns ≡ true) }
+{
+    let notes = vec![in alloc; (Slot::Ta, Value::Stamp(ta))]?;
+    let notes = noted(alloc, notes, Slot::X1, &own.x1)?;
+    let notes = noted(alloc, notes, Slot::X2, &own.x2)?;
+    Ok(Notes::new(notes))
 }
 
 impl RoleState for E1A {
@@ -116,20 +140,8 @@ impl RoleState for E1A {
 
     fn notes(&self, alloc: Global) -> Result<Notes, OutOfMemory> {
         match self {
-            E1A::Start { own } => {
-                let x1 = Value::Text(own.x1.copy(alloc)?);
-                let x2 = Value::Text(own.x2.copy(alloc)?);
-                Ok(Notes::new(vec![in alloc; (Slot::X1, x1), (Slot::X2, x2)]?))
-            }
-            E1A::Done { own, ta } => {
-                let x1 = Value::Text(own.x1.copy(alloc)?);
-                let x2 = Value::Text(own.x2.copy(alloc)?);
-                Ok(Notes::new(vec![in alloc;
-                    (Slot::Ta, Value::Stamp(*ta)),
-                    (Slot::X1, x1),
-                    (Slot::X2, x2),
-                ]?))
-            }
+            E1A::Start { own } => start_notes(alloc, own),
+            E1A::Done { own, ta } => done_notes(alloc, own, *ta),
         }
     }
 
@@ -185,6 +197,11 @@ impl RoleState for E1A {
         let Some(ta) = stamp else {
             unreachable!();
         };
+        let key = key_between(ring, own.a, own.b);
+        let after = E1A::Done {
+            own: own.copy(alloc)?,
+            ta,
+        };
         let body = body_of(
             alloc,
             Tag([1, 1, 1, 1]),
@@ -192,13 +209,11 @@ impl RoleState for E1A {
             &[SlotValue::Stamp(ta)],
             &own.x1,
         )?;
-        let item = seal_item(alloc, sealer, draws, key_between(ring, own.a, own.b), body)?;
+        let head = Tag([1, 1, 1, 0]);
+        let Said { message, item } = say_sealed(alloc, sealer, draws, key, body, head, &own.x2)?;
         let sealed = one_opening(alloc, item)?;
-        let shown = vec![in alloc; tag_term(Tag([1, 1, 1, 0])), text_term(alloc, &own.x2)?]?;
-        let message = message_of(alloc, shown, sealed.as_slice())?;
-        let own = own.copy(alloc)?;
         Ok(Reply {
-            after: E1A::Done { own, ta },
+            after,
             message,
             sealed,
         })

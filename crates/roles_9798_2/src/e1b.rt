@@ -1,6 +1,8 @@
 ghost use Rattle.std.specs.Prelude.{◌≡◌, ◌≢◌, ◌∷◌, [], ◌↔◌, true, length, IsTrue, Some, Ok, Err, IfOk, IfErr};
 ghost use Rattle.mech_rows.specs.declared.kinds.Clear.TheVariants.{Slot as Shown};
 ghost use Rattle.mech_rows.specs.declared.kinds.Slot.TheVariants.{X2};
+ghost use Rattle.mech_rows.specs.Notes.{are_of_kinds, terms_of};
+ghost use Rattle.mech_rows.specs.Replies.{in_order};
 ghost use Rattle.mech_rows.specs.Rings.{keys_in};
 ghost use Rattle.mech_rows.specs.Runs.{bytes_or_empty};
 ghost use Rattle.mech_rows.specs.Openings.{has_parts};
@@ -19,8 +21,8 @@ use seal_trait::Sealer;
 use std::alloc::Global;
 use term_values::{Name, OutOfMemory, Stamp, Tag, Term, Text};
 use text_hooks::{
-    Hook, Reply, RoleState, Taken, item_at, judge_text, key_between, one_opening, one_stamp,
-    open_item, read_body, read_message, stamp_at, text_at,
+    Hook, Reply, RoleState, Taken, item_at, key_between, noted, one_opening, one_stamp, open_item,
+    read_body, read_in, read_message, stamp_at, take_text, text_at,
 };
 
 /// The parties. B sends no text.
@@ -117,8 +119,8 @@ fn take_first<S: Sealer>(
     )?;
     let key = key_between(ring, own.a, own.b);
     let opening = open_item(alloc, sealer, key, item_at(items, 2), 1)?;
-    let first = first_of::<S>(alloc, ring, hook, own, term, items, &opening.body)?;
-    Ok((first, opening))
+    let first = first_of::<S>(alloc, ring, hook, own, term, items, &opening.body);
+    read_in(first, opening)
 }
 
 fn first_of<S: Sealer>(
@@ -144,15 +146,24 @@ fn first_of<S: Sealer>(
         &[Slot::Ta, Slot::X1],
         1,
     )?;
-    let x2 = text_at(items, 1);
-    let x1 = text_at(slots, 4);
-    judge_text(hook, Mech::E1, Slot::X2, x2)?;
-    judge_text(hook, Mech::E1, Slot::X1, x1)?;
+    let x2 = take_text(alloc, hook, Mech::E1, Slot::X2, text_at(items, 1))?;
+    let x1 = take_text(alloc, hook, Mech::E1, Slot::X1, text_at(slots, 4))?;
     Ok(First {
-        x2: x2.copy(alloc)?,
+        x2,
         ta: stamp_at(slots, 3),
-        x1: x1.copy(alloc)?,
+        x1,
     })
+}
+
+/// The notes of a run that has taken the first message.
+fn done_notes(alloc: Global, own: &Own, first: &First) -> Result<Notes, OutOfMemory>
+    ensures notes { IfOk result (λ ns. terms_of ns ≡ in_order (state_of (Done own.now first.now)).notes) }
+    ensures kinds { IfOk result (λ ns. are_of_kinds ns ≡ true) }
+{
+    let notes = vec![in alloc; (Slot::Ta, Value::Stamp(first.ta))]?;
+    let notes = noted(alloc, notes, Slot::X1, &first.x1)?;
+    let notes = noted(alloc, notes, Slot::X2, &first.x2)?;
+    Ok(Notes::new(notes))
 }
 
 impl RoleState for E1B {
@@ -211,15 +222,7 @@ impl RoleState for E1B {
     fn notes(&self, alloc: Global) -> Result<Notes, OutOfMemory> {
         match self {
             E1B::Start { .. } => Ok(Notes::new(Vec::new(alloc))),
-            E1B::Done { first, .. } => {
-                let x1 = Value::Text(first.x1.copy(alloc)?);
-                let x2 = Value::Text(first.x2.copy(alloc)?);
-                Ok(Notes::new(vec![in alloc;
-                    (Slot::Ta, Value::Stamp(first.ta)),
-                    (Slot::X1, x1),
-                    (Slot::X2, x2),
-                ]?))
-            }
+            E1B::Done { own, first } => done_notes(alloc, own, first),
         }
     }
 
@@ -262,16 +265,14 @@ impl RoleState for E1B {
             return Err(Refusal::WrongPass);
         };
         let (first, opening) = take_first(alloc, sealer, ring, hook, own, term)?;
+        let got = Got {
+            slot: Slot::Ta,
+            sender: own.a,
+            tag: Tag([1, 1, 1, 1]),
+            stamp: first.ta,
+        };
+        let got = one_stamp(alloc, got)?;
         let opened = one_opening(alloc, opening)?;
-        let got = one_stamp(
-            alloc,
-            Got {
-                slot: Slot::Ta,
-                sender: own.a,
-                tag: Tag([1, 1, 1, 1]),
-                stamp: first.ta,
-            },
-        )?;
         Ok(Taken {
             after: E1B::Done {
                 own: own.copy(),

@@ -14,8 +14,8 @@ use seal_trait::Sealer;
 use std::alloc::Global;
 use term_values::{Name, Nonce, OutOfMemory, Stamp, Tag, Term, Text};
 use text_hooks::{
-    Hook, Reply, RoleState, SlotValue, Taken, body_of, judge_text, key_between, message_of,
-    nonce_at, one_opening, own_text, read_message, seal_item, tag_term, text_at, text_term,
+    Hook, Reply, RoleState, Said, SlotValue, Taken, body_of, key_between, nonce_at, noted,
+    one_opening, own_text, read_message, say_sealed, take_text, text_at,
 };
 
 /// The parties, and the texts that A sends.
@@ -114,12 +114,21 @@ fn take_first<S: Sealer>(
         &[Clear::Slot(Slot::Rb), Clear::Slot(Slot::X1)],
         &[],
     )?;
-    let x1 = text_at(items, 2);
-    judge_text(hook, Mech::E2, Slot::X1, x1)?;
+    let x1 = take_text(alloc, hook, Mech::E2, Slot::X1, text_at(items, 2))?;
     Ok(First {
         rb: nonce_at(items, 1),
-        x1: x1.copy(alloc)?,
+        x1,
     })
+}
+
+/// The notes of a run that waits for the first message.
+fn start_notes(alloc: Global, own: &Own) -> Result<Notes, OutOfMemory>
+    ensures notes { IfOk result (λ ns. terms_of ns ≡ in_order (state_of (Start own.now)).notes) }
+    ensures kinds { IfOk result (λ ns. are_of_kinds ns ≡ true) }
+{
+    let notes = noted(alloc, Vec::new(alloc), Slot::X2, &own.x2)?;
+    let notes = noted(alloc, notes, Slot::X3, &own.x3)?;
+    Ok(Notes::new(notes))
 }
 
 /// The notes of a run that has heard the first message.
@@ -127,15 +136,11 @@ fn heard_notes(alloc: Global, own: &Own, first: &First) -> Result<Notes, OutOfMe
     ensures notes { IfOk result (λ ns. terms_of ns ≡ in_order (state_of (Heard own.now first.now)).notes) }
     ensures kinds { IfOk result (λ ns. are_of_kinds ns ≡ true) }
 {
-    let x1 = Value::Text(first.x1.copy(alloc)?);
-    let x2 = Value::Text(own.x2.copy(alloc)?);
-    let x3 = Value::Text(own.x3.copy(alloc)?);
-    Ok(Notes::new(vec![in alloc;
-        (Slot::Rb, Value::Nonce(first.rb)),
-        (Slot::X1, x1),
-        (Slot::X2, x2),
-        (Slot::X3, x3),
-    ]?))
+    let notes = vec![in alloc; (Slot::Rb, Value::Nonce(first.rb))]?;
+    let notes = noted(alloc, notes, Slot::X1, &first.x1)?;
+    let notes = noted(alloc, notes, Slot::X2, &own.x2)?;
+    let notes = noted(alloc, notes, Slot::X3, &own.x3)?;
+    Ok(Notes::new(notes))
 }
 
 impl RoleState for E2A {
@@ -211,11 +216,7 @@ impl RoleState for E2A {
 
     fn notes(&self, alloc: Global) -> Result<Notes, OutOfMemory> {
         match self {
-            E2A::Start { own } => {
-                let x2 = Value::Text(own.x2.copy(alloc)?);
-                let x3 = Value::Text(own.x3.copy(alloc)?);
-                Ok(Notes::new(vec![in alloc; (Slot::X2, x2), (Slot::X3, x3)]?))
-            }
+            E2A::Start { own } => start_notes(alloc, own),
             E2A::Heard { own, first } => heard_notes(alloc, own, first),
             E2A::Done { own, first } => heard_notes(alloc, own, first),
         }
@@ -280,6 +281,11 @@ impl RoleState for E2A {
         let E2A::Heard { own, first } = self else {
             return Err(Refusal::WrongPass);
         };
+        let key = key_between(ring, own.a, own.b);
+        let after = E2A::Done {
+            own: own.copy(alloc)?,
+            first: first.copy(alloc)?,
+        };
         let body = body_of(
             alloc,
             Tag([1, 2, 2, 1]),
@@ -287,14 +293,11 @@ impl RoleState for E2A {
             &[SlotValue::Nonce(first.rb)],
             &own.x2,
         )?;
-        let item = seal_item(alloc, sealer, draws, key_between(ring, own.a, own.b), body)?;
+        let head = Tag([1, 2, 2, 0]);
+        let Said { message, item } = say_sealed(alloc, sealer, draws, key, body, head, &own.x3)?;
         let sealed = one_opening(alloc, item)?;
-        let shown = vec![in alloc; tag_term(Tag([1, 2, 2, 0])), text_term(alloc, &own.x3)?]?;
-        let message = message_of(alloc, shown, sealed.as_slice())?;
-        let own = own.copy(alloc)?;
-        let first = first.copy(alloc)?;
         Ok(Reply {
-            after: E2A::Done { own, first },
+            after,
             message,
             sealed,
         })

@@ -1,6 +1,8 @@
 ghost use Rattle.std.specs.Prelude.{◌≡◌, ◌≢◌, ◌∷◌, [], ◌↔◌, true, length, IsTrue, Some, Ok, Err, IfOk, IfErr};
 ghost use Rattle.mech_rows.specs.declared.kinds.Clear.TheVariants.{Slot as Shown};
 ghost use Rattle.mech_rows.specs.declared.kinds.Slot.TheVariants.{X3};
+ghost use Rattle.mech_rows.specs.Notes.{are_of_kinds, terms_of};
+ghost use Rattle.mech_rows.specs.Replies.{in_order};
 ghost use Rattle.mech_rows.specs.Rings.{keys_in};
 ghost use Rattle.mech_rows.specs.Runs.{bytes_or_empty};
 ghost use Rattle.mech_rows.specs.Openings.{has_parts};
@@ -9,7 +11,7 @@ ghost use Rattle.mech_rows.specs.declared.refusal.Refusal.TheVariants.{Memory};
 ghost use Rattle.term_values.specs.declared.small.Key.TheVariants.{One};
 ghost use Rattle.text_hooks.specs.Rules.{allowed};
 ghost use Rattle.roles_9798_2.specs.E2B.{state_of, head, is_e2b};
-ghost use Rattle.roles_9798_2.specs.declared.e2b.E2B.TheVariants.{Asked, Done};
+ghost use Rattle.roles_9798_2.specs.declared.e2b.E2B.TheVariants.{Start, Asked, Done};
 
 use mech_rows::{
     Clear, Mech, Notes, Opening, Refusal, Ring, Role, RunHead, Slot, Stated, Texts, Value,
@@ -19,9 +21,9 @@ use seal_trait::Sealer;
 use std::alloc::Global;
 use term_values::{Name, Nonce, OutOfMemory, Stamp, Tag, Term, Text};
 use text_hooks::{
-    Hook, Reply, RoleState, Taken, compare_nonce, draw_nonce, item_at, judge_text, key_between,
-    message_of, nonce_at, nonce_term, one_opening, open_item, own_text, read_body, read_message,
-    tag_term, text_at, text_term,
+    Hook, Reply, RoleState, Taken, challenge, compare_nonce, draw_nonce, item_at, key_between,
+    nonce_at, noted, one_opening, open_item, own_text, read_body, read_in, read_message, take_text,
+    text_at,
 };
 
 /// The parties, and the text that B sends.
@@ -119,8 +121,8 @@ fn take_second<S: Sealer>(
     )?;
     let key = key_between(ring, own.a, own.b);
     let opening = open_item(alloc, sealer, key, item_at(items, 2), 1)?;
-    let second = second_of::<S>(alloc, ring, hook, own, rb, term, items, &opening.body)?;
-    Ok((second, opening))
+    let second = second_of::<S>(alloc, ring, hook, own, rb, term, items, &opening.body);
+    read_in(second, opening)
 }
 
 fn second_of<S: Sealer>(
@@ -148,14 +150,40 @@ fn second_of<S: Sealer>(
         1,
     )?;
     compare_nonce(&nonce_at(slots, 3), rb, 1, Slot::Rb)?;
-    let x3 = text_at(items, 1);
-    let x2 = text_at(slots, 4);
-    judge_text(hook, Mech::E2, Slot::X3, x3)?;
-    judge_text(hook, Mech::E2, Slot::X2, x2)?;
-    Ok(Second {
-        x3: x3.copy(alloc)?,
-        x2: x2.copy(alloc)?,
-    })
+    let x3 = take_text(alloc, hook, Mech::E2, Slot::X3, text_at(items, 1))?;
+    let x2 = take_text(alloc, hook, Mech::E2, Slot::X2, text_at(slots, 4))?;
+    Ok(Second { x3, x2 })
+}
+
+/// The notes of a run that sends the first message.
+fn start_notes(alloc: Global, own: &Own) -> Result<Notes, OutOfMemory>
+    ensures notes { IfOk result (λ ns. terms_of ns ≡ in_order (state_of (Start own.now)).notes) }
+    ensures kinds { IfOk result (λ ns. are_of_kinds ns ≡ true) }
+{
+    let notes = noted(alloc, Vec::new(alloc), Slot::X1, &own.x1)?;
+    Ok(Notes::new(notes))
+}
+
+/// The notes of a run that waits for the second message.
+fn asked_notes(alloc: Global, own: &Own, rb: &Nonce) -> Result<Notes, OutOfMemory>
+    ensures notes { IfOk result (λ ns. terms_of ns ≡ in_order (state_of (Asked own.now rb.now)).notes) }
+    ensures kinds { IfOk result (λ ns. are_of_kinds ns ≡ true) }
+{
+    let notes = vec![in alloc; (Slot::Rb, Value::Nonce(*rb))]?;
+    let notes = noted(alloc, notes, Slot::X1, &own.x1)?;
+    Ok(Notes::new(notes))
+}
+
+/// The notes of a run that has taken the second message.
+fn done_notes(alloc: Global, own: &Own, rb: &Nonce, second: &Second) -> Result<Notes, OutOfMemory>
+    ensures notes { IfOk result (λ ns. terms_of ns ≡ in_order (state_of (Done own.now rb.now second.now)).notes) }
+    ensures kinds { IfOk result (λ ns. are_of_kinds ns ≡ true) }
+{
+    let notes = vec![in alloc; (Slot::Rb, Value::Nonce(*rb))]?;
+    let notes = noted(alloc, notes, Slot::X1, &own.x1)?;
+    let notes = noted(alloc, notes, Slot::X2, &second.x2)?;
+    let notes = noted(alloc, notes, Slot::X3, &second.x3)?;
+    Ok(Notes::new(notes))
 }
 
 impl RoleState for E2B {
@@ -229,25 +257,9 @@ impl RoleState for E2B {
 
     fn notes(&self, alloc: Global) -> Result<Notes, OutOfMemory> {
         match self {
-            E2B::Start { own } => {
-                let x1 = Value::Text(own.x1.copy(alloc)?);
-                Ok(Notes::new(vec![in alloc; (Slot::X1, x1)]?))
-            }
-            E2B::Asked { own, rb } => {
-                let x1 = Value::Text(own.x1.copy(alloc)?);
-                Ok(Notes::new(vec![in alloc; (Slot::Rb, Value::Nonce(*rb)), (Slot::X1, x1)]?))
-            }
-            E2B::Done { own, rb, second } => {
-                let x1 = Value::Text(own.x1.copy(alloc)?);
-                let x2 = Value::Text(second.x2.copy(alloc)?);
-                let x3 = Value::Text(second.x3.copy(alloc)?);
-                Ok(Notes::new(vec![in alloc;
-                    (Slot::Rb, Value::Nonce(*rb)),
-                    (Slot::X1, x1),
-                    (Slot::X2, x2),
-                    (Slot::X3, x3),
-                ]?))
-            }
+            E2B::Start { own } => start_notes(alloc, own),
+            E2B::Asked { own, rb } => asked_notes(alloc, own, rb),
+            E2B::Done { own, rb, second } => done_notes(alloc, own, rb, second),
         }
     }
 
@@ -290,12 +302,12 @@ impl RoleState for E2B {
         let E2B::Asked { own, rb } = self else {
             return Err(Refusal::WrongPass);
         };
+        let kept = own.copy(alloc)?;
         let (second, opening) = take_second(alloc, sealer, ring, hook, own, rb, term)?;
         let opened = one_opening(alloc, opening)?;
-        let own = own.copy(alloc)?;
         Ok(Taken {
             after: E2B::Done {
-                own,
+                own: kept,
                 rb: *rb,
                 second,
             },
@@ -316,15 +328,13 @@ impl RoleState for E2B {
             return Err(Refusal::WrongPass);
         };
         let rb = draw_nonce(draws)?;
-        let shown = vec![in alloc;
-            tag_term(Tag([1, 2, 1, 0])),
-            nonce_term(&rb),
-            text_term(alloc, &own.x1)?,
-        ]?;
-        let message = message_of(alloc, shown, &[])?;
-        let own = own.copy(alloc)?;
+        let after = E2B::Asked {
+            own: own.copy(alloc)?,
+            rb,
+        };
+        let message = challenge(alloc, Tag([1, 2, 1, 0]), &rb, &own.x1)?;
         Ok(Reply {
-            after: E2B::Asked { own, rb },
+            after,
             message,
             sealed: Vec::new(alloc),
         })

@@ -1,15 +1,19 @@
 ghost use Rattle.std.specs.Prelude.{◌≡◌, ◌≢◌, ◌∷◌, [], ◌↔◌, true, length, IsTrue, Some, Ok, Err, IfOk, IfErr};
 ghost use Rattle.mech_rows.specs.declared.kinds.Clear.TheVariants.{Slot as Shown};
 ghost use Rattle.mech_rows.specs.declared.kinds.Slot.TheVariants.{X4};
+ghost use Rattle.mech_rows.specs.Notes.{are_of_kinds, terms_of};
+ghost use Rattle.mech_rows.specs.Replies.{in_order};
 ghost use Rattle.mech_rows.specs.Rings.{keys_in};
 ghost use Rattle.mech_rows.specs.Runs.{bytes_or_empty};
 ghost use Rattle.mech_rows.specs.Openings.{has_parts};
 ghost use Rattle.mech_rows.specs.Verdict.{verdict, message_items, at, are_clear};
 ghost use Rattle.mech_rows.specs.declared.refusal.Refusal.TheVariants.{Memory};
 ghost use Rattle.term_values.specs.declared.small.Key.TheVariants.{One};
+ghost use Rattle.text_hooks.specs.Parts.{body_of, IsFlat};
 ghost use Rattle.text_hooks.specs.Rules.{allowed};
+ghost use Rattle.text_hooks.specs.declared.making.SlotValue.TheVariants.{Stamp as StampValue};
 ghost use Rattle.roles_9798_2.specs.E3A.{state_of, head, got_second, is_e3a};
-ghost use Rattle.roles_9798_2.specs.declared.e3a.E3A.TheVariants.{Asked, Done};
+ghost use Rattle.roles_9798_2.specs.declared.e3a.E3A.TheVariants.{Start, Asked, Done};
 
 use mech_rows::{
     Clear, Got, Mech, Notes, Opening, Refusal, Ring, Role, RunHead, Slot, Stated, Texts, Value,
@@ -19,9 +23,9 @@ use seal_trait::Sealer;
 use std::alloc::Global;
 use term_values::{Name, OutOfMemory, Stamp, Tag, Term, Text};
 use text_hooks::{
-    Hook, Reply, RoleState, SlotValue, Taken, body_of, item_at, judge_text, key_between,
-    message_of, one_opening, one_stamp, open_item, own_text, read_body, read_message, seal_item,
-    stamp_at, tag_term, text_at, text_term,
+    Hook, Reply, RoleState, Said, SlotValue, Taken, body_of, item_at, key_between, noted,
+    one_opening, one_stamp, open_item, own_text, read_body, read_in, read_message, say_sealed,
+    stamp_at, take_text, text_at,
 };
 
 /// The parties, and the texts that A sends.
@@ -130,8 +134,8 @@ fn take_second<S: Sealer>(
     )?;
     let key = key_between(ring, own.a, own.b);
     let opening = open_item(alloc, sealer, key, item_at(items, 2), 1)?;
-    let second = second_of::<S>(alloc, ring, hook, own, ta, term, items, &opening.body)?;
-    Ok((second, opening))
+    let second = second_of::<S>(alloc, ring, hook, own, ta, term, items, &opening.body);
+    read_in(second, opening)
 }
 
 fn second_of<S: Sealer>(
@@ -158,15 +162,65 @@ fn second_of<S: Sealer>(
         &[Slot::Tb, Slot::X3],
         1,
     )?;
-    let x4 = text_at(items, 1);
-    let x3 = text_at(slots, 4);
-    judge_text(hook, Mech::E3, Slot::X4, x4)?;
-    judge_text(hook, Mech::E3, Slot::X3, x3)?;
+    let x4 = take_text(alloc, hook, Mech::E3, Slot::X4, text_at(items, 1))?;
+    let x3 = take_text(alloc, hook, Mech::E3, Slot::X3, text_at(slots, 4))?;
     Ok(Second {
-        x4: x4.copy(alloc)?,
+        x4,
         tb: stamp_at(slots, 3),
-        x3: x3.copy(alloc)?,
+        x3,
     })
+}
+
+/// The notes of a run that sends the first message.
+fn start_notes(alloc: Global, own: &Own) -> Result<Notes, OutOfMemory>
+    ensures notes { IfOk result (λ ns. terms_of ns ≡ in_order (state_of (Start own.now)).notes) }
+    ensures kinds { IfOk result (λ ns. are_of_kinds ns ≡ true) }
+{
+    let notes = noted(alloc, Vec::new(alloc), Slot::X1, &own.x1)?;
+    let notes = noted(alloc, notes, Slot::X2, &own.x2)?;
+    Ok(Notes::new(notes))
+}
+
+/// The notes of a run that waits for the second message.
+fn asked_notes(alloc: Global, own: &Own, ta: Stamp) -> Result<Notes, OutOfMemory>
+    ensures notes { IfOk result (λ ns. terms_of ns ≡ in_order (state_of (Asked own.now ta)).notes) }
+    ensures kinds { IfOk result (λ ns. are_of_kinds ns ≡ true) }
+{
+    let notes = vec![in alloc; (Slot::Ta, Value::Stamp(ta))]?;
+    let notes = noted(alloc, notes, Slot::X1, &own.x1)?;
+    let notes = noted(alloc, notes, Slot::X2, &own.x2)?;
+    Ok(Notes::new(notes))
+}
+
+/// The notes of a run that has taken the second message.
+fn done_notes(alloc: Global, own: &Own, ta: Stamp, second: &Second) -> Result<Notes, OutOfMemory>
+    ensures notes { IfOk result (λ ns. terms_of ns ≡ in_order (state_of (Done own.now ta second.now)).notes) }
+    ensures kinds { IfOk result (λ ns. are_of_kinds ns ≡ true) }
+{
+    let notes = vec![in alloc;
+        (Slot::Ta, Value::Stamp(ta)),
+        (Slot::Tb, Value::Stamp(second.tb)),
+    ]?;
+    let notes = noted(alloc, notes, Slot::X1, &own.x1)?;
+    let notes = noted(alloc, notes, Slot::X2, &own.x2)?;
+    let notes = noted(alloc, notes, Slot::X3, &second.x3)?;
+    let notes = noted(alloc, notes, Slot::X4, &second.x4)?;
+    Ok(Notes::new(notes))
+}
+
+/// The body of the first message.
+fn first_body(alloc: Global, own: &Own, ta: Stamp) -> Result<Term, Refusal>
+    ensures term { IfOk result (λ t. t ≡ body_of (1 ∷ 3 ∷ 1 ∷ 1 ∷ []) (own.now.a ∷ own.now.b ∷ []) (StampValue ta ∷ []) own.now.x1) }
+    ensures flat { IfOk result IsFlat }
+    ensures memory { IfErr result (λ e. e ≡ Memory) }
+{
+    body_of(
+        alloc,
+        Tag([1, 3, 1, 1]),
+        &[own.a, own.b],
+        &[SlotValue::Stamp(ta)],
+        &own.x1,
+    )
 }
 
 impl RoleState for E3A {
@@ -242,34 +296,9 @@ impl RoleState for E3A {
 
     fn notes(&self, alloc: Global) -> Result<Notes, OutOfMemory> {
         match self {
-            E3A::Start { own } => {
-                let x1 = Value::Text(own.x1.copy(alloc)?);
-                let x2 = Value::Text(own.x2.copy(alloc)?);
-                Ok(Notes::new(vec![in alloc; (Slot::X1, x1), (Slot::X2, x2)]?))
-            }
-            E3A::Asked { own, ta } => {
-                let x1 = Value::Text(own.x1.copy(alloc)?);
-                let x2 = Value::Text(own.x2.copy(alloc)?);
-                Ok(Notes::new(vec![in alloc;
-                    (Slot::Ta, Value::Stamp(*ta)),
-                    (Slot::X1, x1),
-                    (Slot::X2, x2),
-                ]?))
-            }
-            E3A::Done { own, ta, second } => {
-                let x1 = Value::Text(own.x1.copy(alloc)?);
-                let x2 = Value::Text(own.x2.copy(alloc)?);
-                let x3 = Value::Text(second.x3.copy(alloc)?);
-                let x4 = Value::Text(second.x4.copy(alloc)?);
-                Ok(Notes::new(vec![in alloc;
-                    (Slot::Ta, Value::Stamp(*ta)),
-                    (Slot::Tb, Value::Stamp(second.tb)),
-                    (Slot::X1, x1),
-                    (Slot::X2, x2),
-                    (Slot::X3, x3),
-                    (Slot::X4, x4),
-                ]?))
-            }
+            E3A::Start { own } => start_notes(alloc, own),
+            E3A::Asked { own, ta } => asked_notes(alloc, own, *ta),
+            E3A::Done { own, ta, second } => done_notes(alloc, own, *ta, second),
         }
     }
 
@@ -312,21 +341,19 @@ impl RoleState for E3A {
         let E3A::Asked { own, ta } = self else {
             return Err(Refusal::WrongPass);
         };
+        let kept = own.copy(alloc)?;
         let (second, opening) = take_second(alloc, sealer, ring, hook, own, *ta, term)?;
+        let got = Got {
+            slot: Slot::Tb,
+            sender: own.b,
+            tag: Tag([1, 3, 2, 1]),
+            stamp: second.tb,
+        };
+        let got = one_stamp(alloc, got)?;
         let opened = one_opening(alloc, opening)?;
-        let got = one_stamp(
-            alloc,
-            Got {
-                slot: Slot::Tb,
-                sender: own.b,
-                tag: Tag([1, 3, 2, 1]),
-                stamp: second.tb,
-            },
-        )?;
-        let own = own.copy(alloc)?;
         Ok(Taken {
             after: E3A::Done {
-                own,
+                own: kept,
                 ta: *ta,
                 second,
             },
@@ -349,20 +376,17 @@ impl RoleState for E3A {
         let Some(ta) = stamp else {
             unreachable!();
         };
-        let body = body_of(
-            alloc,
-            Tag([1, 3, 1, 1]),
-            &[own.a, own.b],
-            &[SlotValue::Stamp(ta)],
-            &own.x1,
-        )?;
-        let item = seal_item(alloc, sealer, draws, key_between(ring, own.a, own.b), body)?;
+        let key = key_between(ring, own.a, own.b);
+        let after = E3A::Asked {
+            own: own.copy(alloc)?,
+            ta,
+        };
+        let body = first_body(alloc, own, ta)?;
+        let head = Tag([1, 3, 1, 0]);
+        let Said { message, item } = say_sealed(alloc, sealer, draws, key, body, head, &own.x2)?;
         let sealed = one_opening(alloc, item)?;
-        let shown = vec![in alloc; tag_term(Tag([1, 3, 1, 0])), text_term(alloc, &own.x2)?]?;
-        let message = message_of(alloc, shown, sealed.as_slice())?;
-        let own = own.copy(alloc)?;
         Ok(Reply {
-            after: E3A::Asked { own, ta },
+            after,
             message,
             sealed,
         })

@@ -1,15 +1,19 @@
 ghost use Rattle.std.specs.Prelude.{◌≡◌, ◌≢◌, ◌∷◌, [], ◌↔◌, true, length, IsTrue, Some, Ok, Err, IfOk, IfErr};
 ghost use Rattle.mech_rows.specs.declared.kinds.Clear.TheVariants.{Slot as Shown};
 ghost use Rattle.mech_rows.specs.declared.kinds.Slot.TheVariants.{X2};
+ghost use Rattle.mech_rows.specs.Notes.{are_of_kinds, terms_of};
+ghost use Rattle.mech_rows.specs.Replies.{in_order};
 ghost use Rattle.mech_rows.specs.Rings.{keys_in};
 ghost use Rattle.mech_rows.specs.Runs.{bytes_or_empty};
 ghost use Rattle.mech_rows.specs.Openings.{has_parts};
 ghost use Rattle.mech_rows.specs.Verdict.{verdict, message_items, at, are_clear};
 ghost use Rattle.mech_rows.specs.declared.refusal.Refusal.TheVariants.{Memory};
 ghost use Rattle.term_values.specs.declared.small.Key.TheVariants.{One};
+ghost use Rattle.text_hooks.specs.Parts.{body_of, IsFlat};
 ghost use Rattle.text_hooks.specs.Rules.{allowed};
+ghost use Rattle.text_hooks.specs.declared.making.SlotValue.TheVariants.{Stamp as StampValue};
 ghost use Rattle.roles_9798_2.specs.E3B.{state_of, head, got_first, is_e3b};
-ghost use Rattle.roles_9798_2.specs.declared.e3b.E3B.TheVariants.{Start, Heard};
+ghost use Rattle.roles_9798_2.specs.declared.e3b.E3B.TheVariants.{Start, Heard, Done};
 
 use mech_rows::{
     Clear, Got, Mech, Notes, Opening, Refusal, Ring, Role, RunHead, Slot, Stated, Texts, Value,
@@ -19,9 +23,9 @@ use seal_trait::Sealer;
 use std::alloc::Global;
 use term_values::{Name, OutOfMemory, Stamp, Tag, Term, Text};
 use text_hooks::{
-    Hook, Reply, RoleState, SlotValue, Taken, body_of, item_at, judge_text, key_between,
-    message_of, one_opening, one_stamp, open_item, own_text, read_body, read_message, seal_item,
-    stamp_at, tag_term, text_at, text_term,
+    Hook, Reply, RoleState, Said, SlotValue, Taken, body_of, item_at, key_between, noted,
+    one_opening, one_stamp, open_item, own_text, read_body, read_in, read_message, say_sealed,
+    stamp_at, take_text, text_at,
 };
 
 /// The parties, and the texts that B sends.
@@ -129,8 +133,8 @@ fn take_first<S: Sealer>(
     )?;
     let key = key_between(ring, own.a, own.b);
     let opening = open_item(alloc, sealer, key, item_at(items, 2), 1)?;
-    let first = first_of::<S>(alloc, ring, hook, own, term, items, &opening.body)?;
-    Ok((first, opening))
+    let first = first_of::<S>(alloc, ring, hook, own, term, items, &opening.body);
+    read_in(first, opening)
 }
 
 fn first_of<S: Sealer>(
@@ -156,14 +160,77 @@ fn first_of<S: Sealer>(
         &[Slot::Ta, Slot::X1],
         1,
     )?;
-    let x2 = text_at(items, 1);
-    let x1 = text_at(slots, 4);
-    judge_text(hook, Mech::E3, Slot::X2, x2)?;
-    judge_text(hook, Mech::E3, Slot::X1, x1)?;
+    let x2 = take_text(alloc, hook, Mech::E3, Slot::X2, text_at(items, 1))?;
+    let x1 = take_text(alloc, hook, Mech::E3, Slot::X1, text_at(slots, 4))?;
     Ok(First {
-        x2: x2.copy(alloc)?,
+        x2,
         ta: stamp_at(slots, 3),
-        x1: x1.copy(alloc)?,
+        x1,
+    })
+}
+
+/// The notes of a run that waits for the first message.
+fn start_notes(alloc: Global, own: &Own) -> Result<Notes, OutOfMemory>
+    ensures notes { IfOk result (λ ns. terms_of ns ≡ in_order (state_of (Start own.now)).notes) }
+    ensures kinds { IfOk result (λ ns. are_of_kinds ns ≡ true) }
+{
+    let notes = noted(alloc, Vec::new(alloc), Slot::X3, &own.x3)?;
+    let notes = noted(alloc, notes, Slot::X4, &own.x4)?;
+    Ok(Notes::new(notes))
+}
+
+/// The notes of a run that has taken the first message.
+fn heard_notes(alloc: Global, own: &Own, first: &First) -> Result<Notes, OutOfMemory>
+    ensures notes { IfOk result (λ ns. terms_of ns ≡ in_order (state_of (Heard own.now first.now)).notes) }
+    ensures kinds { IfOk result (λ ns. are_of_kinds ns ≡ true) }
+{
+    let notes = vec![in alloc; (Slot::Ta, Value::Stamp(first.ta))]?;
+    let notes = noted(alloc, notes, Slot::X1, &first.x1)?;
+    let notes = noted(alloc, notes, Slot::X2, &first.x2)?;
+    let notes = noted(alloc, notes, Slot::X3, &own.x3)?;
+    let notes = noted(alloc, notes, Slot::X4, &own.x4)?;
+    Ok(Notes::new(notes))
+}
+
+/// The notes of a run that has sent the second message.
+fn done_notes(alloc: Global, own: &Own, first: &First, tb: Stamp) -> Result<Notes, OutOfMemory>
+    ensures notes { IfOk result (λ ns. terms_of ns ≡ in_order (state_of (Done own.now first.now tb)).notes) }
+    ensures kinds { IfOk result (λ ns. are_of_kinds ns ≡ true) }
+{
+    let notes = vec![in alloc;
+        (Slot::Ta, Value::Stamp(first.ta)),
+        (Slot::Tb, Value::Stamp(tb)),
+    ]?;
+    let notes = noted(alloc, notes, Slot::X1, &first.x1)?;
+    let notes = noted(alloc, notes, Slot::X2, &first.x2)?;
+    let notes = noted(alloc, notes, Slot::X3, &own.x3)?;
+    let notes = noted(alloc, notes, Slot::X4, &own.x4)?;
+    Ok(Notes::new(notes))
+}
+
+/// The body of the second message.
+fn second_body(alloc: Global, own: &Own, tb: Stamp) -> Result<Term, Refusal>
+    ensures term { IfOk result (λ t. t ≡ body_of (1 ∷ 3 ∷ 2 ∷ 1 ∷ []) (own.now.a ∷ own.now.b ∷ []) (StampValue tb ∷ []) own.now.x3) }
+    ensures flat { IfOk result IsFlat }
+    ensures memory { IfErr result (λ e. e ≡ Memory) }
+{
+    body_of(
+        alloc,
+        Tag([1, 3, 2, 1]),
+        &[own.a, own.b],
+        &[SlotValue::Stamp(tb)],
+        &own.x3,
+    )
+}
+
+/// The state that has sent the second message.
+fn done_state(alloc: Global, own: &Own, first: &First, tb: Stamp) -> Result<E3B, OutOfMemory>
+    ensures equal { IfOk result (λ s. s ≡ Done own.now first.now tb) }
+{
+    Ok(E3B::Done {
+        own: own.copy(alloc)?,
+        first: first.copy(alloc)?,
+        tb,
     })
 }
 
@@ -245,38 +312,9 @@ impl RoleState for E3B {
 
     fn notes(&self, alloc: Global) -> Result<Notes, OutOfMemory> {
         match self {
-            E3B::Start { own } => {
-                let x3 = Value::Text(own.x3.copy(alloc)?);
-                let x4 = Value::Text(own.x4.copy(alloc)?);
-                Ok(Notes::new(vec![in alloc; (Slot::X3, x3), (Slot::X4, x4)]?))
-            }
-            E3B::Heard { own, first } => {
-                let x1 = Value::Text(first.x1.copy(alloc)?);
-                let x2 = Value::Text(first.x2.copy(alloc)?);
-                let x3 = Value::Text(own.x3.copy(alloc)?);
-                let x4 = Value::Text(own.x4.copy(alloc)?);
-                Ok(Notes::new(vec![in alloc;
-                    (Slot::Ta, Value::Stamp(first.ta)),
-                    (Slot::X1, x1),
-                    (Slot::X2, x2),
-                    (Slot::X3, x3),
-                    (Slot::X4, x4),
-                ]?))
-            }
-            E3B::Done { own, first, tb } => {
-                let x1 = Value::Text(first.x1.copy(alloc)?);
-                let x2 = Value::Text(first.x2.copy(alloc)?);
-                let x3 = Value::Text(own.x3.copy(alloc)?);
-                let x4 = Value::Text(own.x4.copy(alloc)?);
-                Ok(Notes::new(vec![in alloc;
-                    (Slot::Ta, Value::Stamp(first.ta)),
-                    (Slot::Tb, Value::Stamp(*tb)),
-                    (Slot::X1, x1),
-                    (Slot::X2, x2),
-                    (Slot::X3, x3),
-                    (Slot::X4, x4),
-                ]?))
-            }
+            E3B::Start { own } => start_notes(alloc, own),
+            E3B::Heard { own, first } => heard_notes(alloc, own, first),
+            E3B::Done { own, first, tb } => done_notes(alloc, own, first, *tb),
         }
     }
 
@@ -320,19 +358,20 @@ impl RoleState for E3B {
             return Err(Refusal::WrongPass);
         };
         let (first, opening) = take_first(alloc, sealer, ring, hook, own, term)?;
+        let own_copy = own.copy(alloc)?;
+        let got = Got {
+            slot: Slot::Ta,
+            sender: own.a,
+            tag: Tag([1, 3, 1, 1]),
+            stamp: first.ta,
+        };
+        let got = one_stamp(alloc, got)?;
         let opened = one_opening(alloc, opening)?;
-        let got = one_stamp(
-            alloc,
-            Got {
-                slot: Slot::Ta,
-                sender: own.a,
-                tag: Tag([1, 3, 1, 1]),
-                stamp: first.ta,
-            },
-        )?;
-        let own = own.copy(alloc)?;
         Ok(Taken {
-            after: E3B::Heard { own, first },
+            after: E3B::Heard {
+                own: own_copy,
+                first,
+            },
             opened,
             got,
         })
@@ -352,21 +391,14 @@ impl RoleState for E3B {
         let Some(tb) = stamp else {
             unreachable!();
         };
-        let body = body_of(
-            alloc,
-            Tag([1, 3, 2, 1]),
-            &[own.a, own.b],
-            &[SlotValue::Stamp(tb)],
-            &own.x3,
-        )?;
-        let item = seal_item(alloc, sealer, draws, key_between(ring, own.a, own.b), body)?;
+        let key = key_between(ring, own.a, own.b);
+        let after = done_state(alloc, own, first, tb)?;
+        let body = second_body(alloc, own, tb)?;
+        let head = Tag([1, 3, 2, 0]);
+        let Said { message, item } = say_sealed(alloc, sealer, draws, key, body, head, &own.x4)?;
         let sealed = one_opening(alloc, item)?;
-        let shown = vec![in alloc; tag_term(Tag([1, 3, 2, 0])), text_term(alloc, &own.x4)?]?;
-        let message = message_of(alloc, shown, sealed.as_slice())?;
-        let own = own.copy(alloc)?;
-        let first = first.copy(alloc)?;
         Ok(Reply {
-            after: E3B::Done { own, first, tb },
+            after,
             message,
             sealed,
         })

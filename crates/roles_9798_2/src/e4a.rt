@@ -23,9 +23,9 @@ use seal_trait::Sealer;
 use std::alloc::Global;
 use term_values::{Name, Nonce, OutOfMemory, Stamp, Tag, Term, Text};
 use text_hooks::{
-    Hook, Reply, RoleState, SlotValue, Taken, body_of, compare_nonce, draw_nonce, item_at,
-    judge_text, key_between, message_of, nonce_at, one_opening, open_item, own_text, read_body,
-    read_message, seal_item, tag_term, text_at, text_term,
+    Hook, Reply, RoleState, Said, SlotValue, Taken, body_of, compare_nonce, draw_nonce, item_at,
+    key_between, nonce_at, noted, one_opening, open_item, own_text, read_body, read_in,
+    read_message, say_sealed, take_text, text_at,
 };
 
 /// The parties, and the texts that A sends.
@@ -166,11 +166,10 @@ fn take_first<S: Sealer>(
         &[Clear::Slot(Slot::Rb), Clear::Slot(Slot::X1)],
         &[],
     )?;
-    let x1 = text_at(items, 2);
-    judge_text(hook, Mech::E4, Slot::X1, x1)?;
+    let x1 = take_text(alloc, hook, Mech::E4, Slot::X1, text_at(items, 2))?;
     Ok(First {
         rb: nonce_at(items, 1),
-        x1: x1.copy(alloc)?,
+        x1,
     })
 }
 
@@ -208,8 +207,8 @@ fn take_third<S: Sealer>(
         term,
         items,
         &opening.body,
-    )?;
-    Ok((third, opening))
+    );
+    read_in(third, opening)
 }
 
 fn third_of<S: Sealer>(
@@ -239,14 +238,31 @@ fn third_of<S: Sealer>(
     )?;
     compare_nonce(&nonce_at(slots, 3), &first.rb, 1, Slot::Rb)?;
     compare_nonce(&nonce_at(slots, 4), ra, 1, Slot::Ra)?;
-    let x5 = text_at(items, 1);
-    let x4 = text_at(slots, 5);
-    judge_text(hook, Mech::E4, Slot::X5, x5)?;
-    judge_text(hook, Mech::E4, Slot::X4, x4)?;
-    Ok(Third {
-        x5: x5.copy(alloc)?,
-        x4: x4.copy(alloc)?,
-    })
+    let x5 = take_text(alloc, hook, Mech::E4, Slot::X5, text_at(items, 1))?;
+    let x4 = take_text(alloc, hook, Mech::E4, Slot::X4, text_at(slots, 5))?;
+    Ok(Third { x5, x4 })
+}
+
+/// The notes of a run that waits for the first message.
+fn start_notes(alloc: Global, own: &Own) -> Result<Notes, OutOfMemory>
+    ensures notes { IfOk result (λ ns. terms_of ns ≡ in_order (state_of (Start own.now)).notes) }
+    ensures kinds { IfOk result (λ ns. are_of_kinds ns ≡ true) }
+{
+    let notes = noted(alloc, Vec::new(alloc), Slot::X2, &own.x2)?;
+    let notes = noted(alloc, notes, Slot::X3, &own.x3)?;
+    Ok(Notes::new(notes))
+}
+
+/// The notes of a run that has heard the first message.
+fn heard_notes(alloc: Global, own: &Own, first: &First) -> Result<Notes, OutOfMemory>
+    ensures notes { IfOk result (λ ns. terms_of ns ≡ in_order (state_of (Heard own.now first.now)).notes) }
+    ensures kinds { IfOk result (λ ns. are_of_kinds ns ≡ true) }
+{
+    let notes = vec![in alloc; (Slot::Rb, Value::Nonce(first.rb))]?;
+    let notes = noted(alloc, notes, Slot::X1, &first.x1)?;
+    let notes = noted(alloc, notes, Slot::X2, &own.x2)?;
+    let notes = noted(alloc, notes, Slot::X3, &own.x3)?;
+    Ok(Notes::new(notes))
 }
 
 /// The notes of a run that has sent the second message.
@@ -254,16 +270,14 @@ fn sent_notes(alloc: Global, own: &Own, first: &First, ra: &Nonce) -> Result<Not
     ensures notes { IfOk result (λ ns. terms_of ns ≡ in_order (state_of (Sent own.now first.now ra.now)).notes) }
     ensures kinds { IfOk result (λ ns. are_of_kinds ns ≡ true) }
 {
-    let x1 = Value::Text(first.x1.copy(alloc)?);
-    let x2 = Value::Text(own.x2.copy(alloc)?);
-    let x3 = Value::Text(own.x3.copy(alloc)?);
-    Ok(Notes::new(vec![in alloc;
+    let notes = vec![in alloc;
         (Slot::Ra, Value::Nonce(*ra)),
         (Slot::Rb, Value::Nonce(first.rb)),
-        (Slot::X1, x1),
-        (Slot::X2, x2),
-        (Slot::X3, x3),
-    ]?))
+    ]?;
+    let notes = noted(alloc, notes, Slot::X1, &first.x1)?;
+    let notes = noted(alloc, notes, Slot::X2, &own.x2)?;
+    let notes = noted(alloc, notes, Slot::X3, &own.x3)?;
+    Ok(Notes::new(notes))
 }
 
 /// The notes of a run that has taken the third message.
@@ -277,20 +291,16 @@ fn done_notes(
     ensures notes { IfOk result (λ ns. terms_of ns ≡ in_order (state_of (Done own.now first.now ra.now third.now)).notes) }
     ensures kinds { IfOk result (λ ns. are_of_kinds ns ≡ true) }
 {
-    let x1 = Value::Text(first.x1.copy(alloc)?);
-    let x2 = Value::Text(own.x2.copy(alloc)?);
-    let x3 = Value::Text(own.x3.copy(alloc)?);
-    let x4 = Value::Text(third.x4.copy(alloc)?);
-    let x5 = Value::Text(third.x5.copy(alloc)?);
-    Ok(Notes::new(vec![in alloc;
+    let notes = vec![in alloc;
         (Slot::Ra, Value::Nonce(*ra)),
         (Slot::Rb, Value::Nonce(first.rb)),
-        (Slot::X1, x1),
-        (Slot::X2, x2),
-        (Slot::X3, x3),
-        (Slot::X4, x4),
-        (Slot::X5, x5),
-    ]?))
+    ]?;
+    let notes = noted(alloc, notes, Slot::X1, &first.x1)?;
+    let notes = noted(alloc, notes, Slot::X2, &own.x2)?;
+    let notes = noted(alloc, notes, Slot::X3, &own.x3)?;
+    let notes = noted(alloc, notes, Slot::X4, &third.x4)?;
+    let notes = noted(alloc, notes, Slot::X5, &third.x5)?;
+    Ok(Notes::new(notes))
 }
 
 /// The body of the second message.
@@ -417,22 +427,8 @@ impl RoleState for E4A {
 
     fn notes(&self, alloc: Global) -> Result<Notes, OutOfMemory> {
         match self {
-            E4A::Start { own } => {
-                let x2 = Value::Text(own.x2.copy(alloc)?);
-                let x3 = Value::Text(own.x3.copy(alloc)?);
-                Ok(Notes::new(vec![in alloc; (Slot::X2, x2), (Slot::X3, x3)]?))
-            }
-            E4A::Heard { own, first } => {
-                let x1 = Value::Text(first.x1.copy(alloc)?);
-                let x2 = Value::Text(own.x2.copy(alloc)?);
-                let x3 = Value::Text(own.x3.copy(alloc)?);
-                Ok(Notes::new(vec![in alloc;
-                    (Slot::Rb, Value::Nonce(first.rb)),
-                    (Slot::X1, x1),
-                    (Slot::X2, x2),
-                    (Slot::X3, x3),
-                ]?))
-            }
+            E4A::Start { own } => start_notes(alloc, own),
+            E4A::Heard { own, first } => heard_notes(alloc, own, first),
             E4A::Sent { own, first, ra } => sent_notes(alloc, own, first, ra),
             E4A::Done {
                 own,
@@ -491,14 +487,14 @@ impl RoleState for E4A {
                 })
             }
             E4A::Sent { own, first, ra } => {
+                let own_copy = own.copy(alloc)?;
+                let first_copy = first.copy(alloc)?;
                 let (third, opening) = take_third(alloc, sealer, ring, hook, own, first, ra, term)?;
                 let opened = one_opening(alloc, opening)?;
-                let own = own.copy(alloc)?;
-                let first = first.copy(alloc)?;
                 Ok(Taken {
                     after: E4A::Done {
-                        own,
-                        first,
+                        own: own_copy,
+                        first: first_copy,
                         ra: *ra,
                         third,
                     },
@@ -522,15 +518,18 @@ impl RoleState for E4A {
             return Err(Refusal::WrongPass);
         };
         let ra = draw_nonce(draws)?;
+        let key = key_between(ring, own.a, own.b);
+        let after = E4A::Sent {
+            own: own.copy(alloc)?,
+            first: first.copy(alloc)?,
+            ra,
+        };
         let body = second_body(alloc, own, &ra, &first.rb)?;
-        let item = seal_item(alloc, sealer, draws, key_between(ring, own.a, own.b), body)?;
+        let head = Tag([1, 4, 2, 0]);
+        let Said { message, item } = say_sealed(alloc, sealer, draws, key, body, head, &own.x3)?;
         let sealed = one_opening(alloc, item)?;
-        let shown = vec![in alloc; tag_term(Tag([1, 4, 2, 0])), text_term(alloc, &own.x3)?]?;
-        let message = message_of(alloc, shown, sealed.as_slice())?;
-        let own = own.copy(alloc)?;
-        let first = first.copy(alloc)?;
         Ok(Reply {
-            after: E4A::Sent { own, first, ra },
+            after,
             message,
             sealed,
         })

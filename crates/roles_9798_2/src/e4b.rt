@@ -8,14 +8,12 @@ ghost use Rattle.mech_rows.specs.Runs.{bytes_or_empty};
 ghost use Rattle.mech_rows.specs.Openings.{has_parts};
 ghost use Rattle.mech_rows.specs.Verdict.{verdict, message_items, at, are_clear};
 ghost use Rattle.mech_rows.specs.declared.refusal.Refusal.TheVariants.{Memory};
-ghost use Rattle.tagged_codec.specs.Grammar.{IsInLimits};
-ghost use Rattle.term_values.specs.Trees.{tag, nonce, text, trees, tuple};
 ghost use Rattle.term_values.specs.declared.small.Key.TheVariants.{One};
 ghost use Rattle.text_hooks.specs.Parts.{body_of, IsFlat};
 ghost use Rattle.text_hooks.specs.declared.making.SlotValue.TheVariants.{Nonce as NonceValue};
 ghost use Rattle.text_hooks.specs.Rules.{allowed};
 ghost use Rattle.roles_9798_2.specs.E4B.{state_of, head, is_e4b};
-ghost use Rattle.roles_9798_2.specs.declared.e4b.E4B.TheVariants.{Asked, Heard};
+ghost use Rattle.roles_9798_2.specs.declared.e4b.E4B.TheVariants.{Start, Asked, Heard};
 
 use mech_rows::{
     Clear, Mech, Notes, Opening, Refusal, Ring, Role, RunHead, Slot, Stated, Texts, Value,
@@ -25,9 +23,9 @@ use seal_trait::Sealer;
 use std::alloc::Global;
 use term_values::{Name, Nonce, OutOfMemory, Stamp, Tag, Term, Text};
 use text_hooks::{
-    Hook, Reply, RoleState, SlotValue, Taken, body_of, compare_nonce, draw_nonce, item_at,
-    judge_text, key_between, message_of, nonce_at, nonce_term, one_opening, open_item, own_text,
-    read_body, read_message, seal_item, tag_term, text_at, text_term,
+    Hook, Reply, RoleState, Said, SlotValue, Taken, body_of, challenge, compare_nonce, draw_nonce,
+    item_at, key_between, nonce_at, noted, one_opening, open_item, own_text, read_body, read_in,
+    read_message, say_sealed, take_text, text_at,
 };
 
 /// The parties, and the texts that B sends.
@@ -142,8 +140,8 @@ fn take_second<S: Sealer>(
     )?;
     let key = key_between(ring, own.a, own.b);
     let opening = open_item(alloc, sealer, key, item_at(items, 2), 1)?;
-    let second = second_of::<S>(alloc, ring, hook, own, rb, term, items, &opening.body)?;
-    Ok((second, opening))
+    let second = second_of::<S>(alloc, ring, hook, own, rb, term, items, &opening.body);
+    read_in(second, opening)
 }
 
 fn second_of<S: Sealer>(
@@ -171,15 +169,36 @@ fn second_of<S: Sealer>(
         1,
     )?;
     compare_nonce(&nonce_at(slots, 4), rb, 1, Slot::Rb)?;
-    let x3 = text_at(items, 1);
-    let x2 = text_at(slots, 5);
-    judge_text(hook, Mech::E4, Slot::X3, x3)?;
-    judge_text(hook, Mech::E4, Slot::X2, x2)?;
+    let x3 = take_text(alloc, hook, Mech::E4, Slot::X3, text_at(items, 1))?;
+    let x2 = take_text(alloc, hook, Mech::E4, Slot::X2, text_at(slots, 5))?;
     Ok(Second {
-        x3: x3.copy(alloc)?,
+        x3,
         ra: nonce_at(slots, 3),
-        x2: x2.copy(alloc)?,
+        x2,
     })
+}
+
+/// The notes of a run that sends the first message.
+fn start_notes(alloc: Global, own: &Own) -> Result<Notes, OutOfMemory>
+    ensures notes { IfOk result (λ ns. terms_of ns ≡ in_order (state_of (Start own.now)).notes) }
+    ensures kinds { IfOk result (λ ns. are_of_kinds ns ≡ true) }
+{
+    let notes = noted(alloc, Vec::new(alloc), Slot::X1, &own.x1)?;
+    let notes = noted(alloc, notes, Slot::X4, &own.x4)?;
+    let notes = noted(alloc, notes, Slot::X5, &own.x5)?;
+    Ok(Notes::new(notes))
+}
+
+/// The notes of a run that waits for the second message.
+fn asked_notes(alloc: Global, own: &Own, rb: &Nonce) -> Result<Notes, OutOfMemory>
+    ensures notes { IfOk result (λ ns. terms_of ns ≡ in_order (state_of (Asked own.now rb.now)).notes) }
+    ensures kinds { IfOk result (λ ns. are_of_kinds ns ≡ true) }
+{
+    let notes = vec![in alloc; (Slot::Rb, Value::Nonce(*rb))]?;
+    let notes = noted(alloc, notes, Slot::X1, &own.x1)?;
+    let notes = noted(alloc, notes, Slot::X4, &own.x4)?;
+    let notes = noted(alloc, notes, Slot::X5, &own.x5)?;
+    Ok(Notes::new(notes))
 }
 
 /// The notes of a run that has heard the second message.
@@ -187,34 +206,16 @@ fn heard_notes(alloc: Global, own: &Own, rb: &Nonce, second: &Second) -> Result<
     ensures notes { IfOk result (λ ns. terms_of ns ≡ in_order (state_of (Heard own.now rb.now second.now)).notes) }
     ensures kinds { IfOk result (λ ns. are_of_kinds ns ≡ true) }
 {
-    let x1 = Value::Text(own.x1.copy(alloc)?);
-    let x2 = Value::Text(second.x2.copy(alloc)?);
-    let x3 = Value::Text(second.x3.copy(alloc)?);
-    let x4 = Value::Text(own.x4.copy(alloc)?);
-    let x5 = Value::Text(own.x5.copy(alloc)?);
-    Ok(Notes::new(vec![in alloc;
+    let notes = vec![in alloc;
         (Slot::Ra, Value::Nonce(second.ra)),
         (Slot::Rb, Value::Nonce(*rb)),
-        (Slot::X1, x1),
-        (Slot::X2, x2),
-        (Slot::X3, x3),
-        (Slot::X4, x4),
-        (Slot::X5, x5),
-    ]?))
-}
-
-/// The first message, with this nonce.
-fn first_message(alloc: Global, own: &Own, rb: &Nonce) -> Result<Term, Refusal>
-    ensures term { IfOk result (λ t. t ≡ tuple (trees (tag (1 ∷ 4 ∷ 1 ∷ 0 ∷ []) ∷ nonce rb.now ∷ text own.now.x1 ∷ []))) }
-    ensures limits { IfOk result IsInLimits }
-    ensures memory { IfErr result (λ e. e ≡ Memory) }
-{
-    let shown = vec![in alloc;
-        tag_term(Tag([1, 4, 1, 0])),
-        nonce_term(rb),
-        text_term(alloc, &own.x1)?,
     ]?;
-    message_of(alloc, shown, &[])
+    let notes = noted(alloc, notes, Slot::X1, &own.x1)?;
+    let notes = noted(alloc, notes, Slot::X2, &second.x2)?;
+    let notes = noted(alloc, notes, Slot::X3, &second.x3)?;
+    let notes = noted(alloc, notes, Slot::X4, &own.x4)?;
+    let notes = noted(alloc, notes, Slot::X5, &own.x5)?;
+    Ok(Notes::new(notes))
 }
 
 /// The body of the third message.
@@ -325,23 +326,8 @@ impl RoleState for E4B {
 
     fn notes(&self, alloc: Global) -> Result<Notes, OutOfMemory> {
         match self {
-            E4B::Start { own } => {
-                let x1 = Value::Text(own.x1.copy(alloc)?);
-                let x4 = Value::Text(own.x4.copy(alloc)?);
-                let x5 = Value::Text(own.x5.copy(alloc)?);
-                Ok(Notes::new(vec![in alloc; (Slot::X1, x1), (Slot::X4, x4), (Slot::X5, x5)]?))
-            }
-            E4B::Asked { own, rb } => {
-                let x1 = Value::Text(own.x1.copy(alloc)?);
-                let x4 = Value::Text(own.x4.copy(alloc)?);
-                let x5 = Value::Text(own.x5.copy(alloc)?);
-                Ok(Notes::new(vec![in alloc;
-                    (Slot::Rb, Value::Nonce(*rb)),
-                    (Slot::X1, x1),
-                    (Slot::X4, x4),
-                    (Slot::X5, x5),
-                ]?))
-            }
+            E4B::Start { own } => start_notes(alloc, own),
+            E4B::Asked { own, rb } => asked_notes(alloc, own, rb),
             E4B::Heard { own, rb, second } => heard_notes(alloc, own, rb, second),
             E4B::Done { own, rb, second } => heard_notes(alloc, own, rb, second),
         }
@@ -387,12 +373,12 @@ impl RoleState for E4B {
         let E4B::Asked { own, rb } = self else {
             return Err(Refusal::WrongPass);
         };
+        let kept = own.copy(alloc)?;
         let (second, opening) = take_second(alloc, sealer, ring, hook, own, rb, term)?;
         let opened = one_opening(alloc, opening)?;
-        let own = own.copy(alloc)?;
         Ok(Taken {
             after: E4B::Heard {
-                own,
+                own: kept,
                 rb: *rb,
                 second,
             },
@@ -412,32 +398,32 @@ impl RoleState for E4B {
         match self {
             E4B::Start { own } => {
                 let rb = draw_nonce(draws)?;
-                let message = first_message(alloc, own, &rb)?;
-                let own = own.copy(alloc)?;
+                let after = E4B::Asked {
+                    own: own.copy(alloc)?,
+                    rb,
+                };
+                let message = challenge(alloc, Tag([1, 4, 1, 0]), &rb, &own.x1)?;
                 Ok(Reply {
-                    after: E4B::Asked { own, rb },
+                    after,
                     message,
                     sealed: Vec::new(alloc),
                 })
             }
             E4B::Heard { own, rb, second } => {
-                let body = third_body(alloc, own, rb, &second.ra)?;
                 let key = key_between(ring, own.a, own.b);
-                let item = seal_item(alloc, sealer, draws, key, body)?;
+                let after = E4B::Done {
+                    own: own.copy(alloc)?,
+                    rb: *rb,
+                    second: second.copy(alloc)?,
+                };
+                let body = third_body(alloc, own, rb, &second.ra)?;
+                let head = Tag([1, 4, 3, 0]);
+                let Said { message, item } = say_sealed(
+                    alloc, sealer, draws, key, body, head, &own.x5,
+                )?;
                 let sealed = one_opening(alloc, item)?;
-                let shown = vec![in alloc;
-                    tag_term(Tag([1, 4, 3, 0])),
-                    text_term(alloc, &own.x5)?,
-                ]?;
-                let message = message_of(alloc, shown, sealed.as_slice())?;
-                let own = own.copy(alloc)?;
-                let second = second.copy(alloc)?;
                 Ok(Reply {
-                    after: E4B::Done {
-                        own,
-                        rb: *rb,
-                        second,
-                    },
+                    after,
                     message,
                     sealed,
                 })
