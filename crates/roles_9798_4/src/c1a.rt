@@ -1,5 +1,8 @@
-ghost use Rattle.std.specs.Prelude.{◌≡◌, ◌↔◌, IsTrue, IfOk};
-ghost use Rattle.roles_9798_4.specs.C1A.{is_c1a};
+ghost use Rattle.std.specs.Prelude.{◌≡◌, ◌↔◌, IsTrue, IfOk, true};
+ghost use Rattle.mech_rows.specs.Notes.{are_of_kinds, terms_of};
+ghost use Rattle.mech_rows.specs.Replies.{in_order};
+ghost use Rattle.roles_9798_4.specs.C1A.{state_of, is_c1a};
+ghost use Rattle.roles_9798_4.specs.declared.c1a.C1A.TheVariants.{Start, Done};
 
 use mech_rows::{Mech, Notes, Refusal, Ring, Role, RunHead, Slot, Stated, Texts, Value};
 use outside::Draws;
@@ -7,8 +10,8 @@ use seal_trait::Sealer;
 use std::alloc::Global;
 use term_values::{Name, OutOfMemory, Stamp, Tag, Term, Text};
 use text_hooks::{
-    Hook, Reply, RoleState, SlotValue, Taken, body_of, check_item, key_between, message_of,
-    one_opening, own_text, stamp_term, tag_term, text_term,
+    Hook, Reply, RoleState, SlotValue, Taken, body_of, key_between, noted, own_text, reply_with,
+    say_checked,
 };
 
 /// The parties, and the texts that A sends.
@@ -59,6 +62,27 @@ impl Stated for C1A {
     ghost use Rattle.roles_9798_4.specs.C1A.{state_of as state_of_c1a};
 
     ghost state_of = { state_of_c1a };
+}
+
+/// The notes of a run that begins.
+fn start_notes(alloc: Global, own: &Own) -> Result<Notes, OutOfMemory>
+    ensures notes { IfOk result (λ ns. terms_of ns ≡ in_order (state_of (Start own.now)).notes) }
+    ensures kinds { IfOk result (λ ns. are_of_kinds ns ≡ true) }
+{
+    let notes = noted(alloc, Vec::new(alloc), Slot::X1, &own.x1)?;
+    let notes = noted(alloc, notes, Slot::X2, &own.x2)?;
+    Ok(Notes::new(notes))
+}
+
+/// The notes of a run that has sent the message.
+fn done_notes(alloc: Global, own: &Own, ta: &Stamp) -> Result<Notes, OutOfMemory>
+    ensures notes { IfOk result (λ ns. terms_of ns ≡ in_order (state_of (Done own.now ta.now)).notes) }
+    ensures kinds { IfOk result (λ ns. are_of_kinds ns ≡ true) }
+{
+    let notes = vec![in alloc; (Slot::Ta, Value::Stamp(*ta))]?;
+    let notes = noted(alloc, notes, Slot::X1, &own.x1)?;
+    let notes = noted(alloc, notes, Slot::X2, &own.x2)?;
+    Ok(Notes::new(notes))
 }
 
 impl RoleState for C1A {
@@ -115,20 +139,8 @@ impl RoleState for C1A {
 
     fn notes(&self, alloc: Global) -> Result<Notes, OutOfMemory> {
         match self {
-            C1A::Start { own } => {
-                let x1 = Value::Text(own.x1.copy(alloc)?);
-                let x2 = Value::Text(own.x2.copy(alloc)?);
-                Ok(Notes::new(vec![in alloc; (Slot::X1, x1), (Slot::X2, x2)]?))
-            }
-            C1A::Done { own, ta } => {
-                let x1 = Value::Text(own.x1.copy(alloc)?);
-                let x2 = Value::Text(own.x2.copy(alloc)?);
-                Ok(Notes::new(vec![in alloc;
-                    (Slot::Ta, Value::Stamp(*ta)),
-                    (Slot::X1, x1),
-                    (Slot::X2, x2),
-                ]?))
-            }
+            C1A::Start { own } => start_notes(alloc, own),
+            C1A::Done { own, ta } => done_notes(alloc, own, ta),
         }
     }
 
@@ -184,6 +196,10 @@ impl RoleState for C1A {
         let Some(ta) = stamp else {
             unreachable!();
         };
+        let after = C1A::Done {
+            own: own.copy(alloc)?,
+            ta,
+        };
         let body = body_of(
             alloc,
             Tag([2, 1, 1, 1]),
@@ -191,20 +207,16 @@ impl RoleState for C1A {
             &[SlotValue::Stamp(ta)],
             &own.x1,
         )?;
-        let item = check_item(alloc, sealer, key_between(ring, own.a, own.b), body)?;
-        let sealed = one_opening(alloc, item)?;
-        let shown = vec![in alloc;
-            tag_term(Tag([2, 1, 1, 0])),
-            stamp_term(ta),
-            text_term(alloc, &own.x1)?,
-            text_term(alloc, &own.x2)?,
-        ]?;
-        let message = message_of(alloc, shown, sealed.as_slice())?;
-        let own = own.copy(alloc)?;
-        Ok(Reply {
-            after: C1A::Done { own, ta },
-            message,
-            sealed,
-        })
+        let said = say_checked(
+            alloc,
+            sealer,
+            key_between(ring, own.a, own.b),
+            body,
+            Tag([2, 1, 1, 0]),
+            Some(SlotValue::Stamp(ta)),
+            &own.x1,
+            &own.x2,
+        )?;
+        reply_with(alloc, after, said)
     }
 }

@@ -1,10 +1,18 @@
 ghost use Rattle.std.specs.Prelude.{◌≡◌, ◌≢◌, ◌↔◌, ◌∷◌, [], IsTrue, Ok, Err, IfOk, IfErr, true};
+ghost use Rattle.term_values.specs.Trees.{stamp, text};
+ghost use Rattle.term_values.specs.declared.small.Key.TheVariants.{One};
+ghost use Rattle.mech_rows.specs.declared.kinds.Clear.TheVariants.{Slot as Shown};
+ghost use Rattle.mech_rows.specs.declared.kinds.Slot.TheVariants.{Ta, X1, X2};
+ghost use Rattle.mech_rows.specs.Notes.{are_of_kinds, terms_of};
+ghost use Rattle.mech_rows.specs.Replies.{in_order};
 ghost use Rattle.mech_rows.specs.Rings.{keys_in};
+ghost use Rattle.mech_rows.specs.Runs.{bytes_or_empty};
 ghost use Rattle.mech_rows.specs.Openings.{has_parts};
-ghost use Rattle.mech_rows.specs.Verdict.{verdict};
+ghost use Rattle.mech_rows.specs.Verdict.{verdict, message_items, at};
 ghost use Rattle.mech_rows.specs.declared.refusal.Refusal.TheVariants.{Memory};
+ghost use Rattle.text_hooks.specs.Parts.{body_of};
 ghost use Rattle.text_hooks.specs.Rules.{allowed};
-ghost use Rattle.mech_rows.specs.declared.kinds.Slot.TheVariants.{Ta};
+ghost use Rattle.text_hooks.specs.declared.making.SlotValue.TheVariants.{Stamp as StampValue};
 ghost use Rattle.roles_9798_4.specs.C1B.{state_of, head, is_c1b};
 ghost use Rattle.roles_9798_4.specs.declared.c1b.C1B.TheVariants.{Start, Done};
 
@@ -16,8 +24,8 @@ use seal_trait::Sealer;
 use std::alloc::Global;
 use term_values::{Name, OutOfMemory, Stamp, Tag, Term, Text};
 use text_hooks::{
-    Hook, Reply, RoleState, SlotValue, Taken, body_of, item_at, judge_text, key_between,
-    one_opening, one_stamp, read_message, stamp_at, test_item, text_at,
+    Hook, Reply, RoleState, SlotValue, Taken, body_of, item_at, judged_with, key_between, noted,
+    read_in, read_message, stamp_at, take_text, test_item, text_at,
 };
 
 /// The parties.
@@ -111,14 +119,44 @@ fn take_first<S: Sealer>(
     )?;
     let key = key_between(ring, own.a, own.b);
     let opening = test_item(alloc, sealer, key, body, item_at(items, 4), 1)?;
-    judge_text(hook, Mech::C1, Slot::X1, x1)?;
-    judge_text(hook, Mech::C1, Slot::X2, x2)?;
-    let first = First {
-        ta,
-        x1: x1.copy(alloc)?,
-        x2: x2.copy(alloc)?,
-    };
-    Ok((first, opening))
+    let first = first_of::<S>(alloc, ring, hook, own, term, items, ta, x1, x2);
+    read_in(first, opening)
+}
+
+/// What the message shows, whose items these are, and whose check holds.
+fn first_of<S: Sealer>(
+    alloc: Global,
+    ring: &Ring,
+    hook: &Hook,
+    own: &Own,
+    term: &Term,
+    items: &[Term],
+    ta: Stamp,
+    x1: &Text,
+    x2: &Text,
+) -> Result<First, Refusal>
+    requires items { message_items (2 ∷ 1 ∷ 1 ∷ 0 ∷ []) own.now.b (Shown Ta ∷ Shown X1 ∷ Shown X2 ∷ []) (true ∷ []) term.now ≡ Ok items.now }
+    requires ta { at items.now 1 ≡ stamp ta }
+    requires x1 { at items.now 2 ≡ text x1.now }
+    requires x2 { at items.now 3 ≡ text x2.now }
+    requires checked { S.checks (One (bytes_or_empty (keys_in ring.now own.now.a own.now.b))) (body_of (2 ∷ 1 ∷ 1 ∷ 1 ∷ []) (own.now.a ∷ own.now.b ∷ []) (StampValue ta ∷ []) x1.now) (at items.now 4) ≡ true }
+    ensures fit { IfOk result (λ f. verdict S.opens S.checks (keys_in ring.now) (allowed hook.now.rules.items) (state_of (Start own.now)) term.now ≡ Ok (record { notes = (state_of (Done own.now f)).notes; opened = record { key = One (bytes_or_empty (keys_in ring.now own.now.a own.now.b)); item = at items.now 4; body = body_of (2 ∷ 1 ∷ 1 ∷ 1 ∷ []) (own.now.a ∷ own.now.b ∷ []) (StampValue ta ∷ []) x1.now } ∷ []; got = record { slot = Ta; sender = own.now.a; tagged = 2 ∷ 1 ∷ 1 ∷ 1 ∷ []; stamp = f.ta } ∷ [] })) }
+    ensures refused { IfErr result (λ e. e ≢ Memory → verdict S.opens S.checks (keys_in ring.now) (allowed hook.now.rules.items) (state_of (Start own.now)) term.now ≡ Err e) }
+{
+    let x1 = take_text(alloc, hook, Mech::C1, Slot::X1, x1)?;
+    let x2 = take_text(alloc, hook, Mech::C1, Slot::X2, x2)?;
+    Ok(First { ta, x1, x2 })
+}
+
+/// The notes of a run that has taken the message.
+fn done_notes(alloc: Global, own: &Own, first: &First) -> Result<Notes, OutOfMemory>
+    ensures notes { IfOk result (λ ns. terms_of ns ≡ in_order (state_of (Done own.now first.now)).notes) }
+    ensures kinds { IfOk result (λ ns. are_of_kinds ns ≡ true) }
+{
+    let notes = vec![in alloc; (Slot::Ta, Value::Stamp(first.ta))]?;
+    let notes = noted(alloc, notes, Slot::X1, &first.x1)?;
+    let notes = noted(alloc, notes, Slot::X2, &first.x2)?;
+    Ok(Notes::new(notes))
 }
 
 impl RoleState for C1B {
@@ -174,15 +212,7 @@ impl RoleState for C1B {
     fn notes(&self, alloc: Global) -> Result<Notes, OutOfMemory> {
         match self {
             C1B::Start { .. } => Ok(Notes::new(Vec::new(alloc))),
-            C1B::Done { first, .. } => {
-                let x1 = Value::Text(first.x1.copy(alloc)?);
-                let x2 = Value::Text(first.x2.copy(alloc)?);
-                Ok(Notes::new(vec![in alloc;
-                    (Slot::Ta, Value::Stamp(first.ta)),
-                    (Slot::X1, x1),
-                    (Slot::X2, x2),
-                ]?))
-            }
+            C1B::Done { own, first } => done_notes(alloc, own, first),
         }
     }
 
@@ -225,21 +255,13 @@ impl RoleState for C1B {
             return Err(Refusal::WrongPass);
         };
         let (first, opening) = take_first(alloc, sealer, ring, hook, own, term)?;
-        let opened = one_opening(alloc, opening)?;
-        let got = one_stamp(
-            alloc,
-            Got {
-                slot: Slot::Ta,
-                sender: own.a,
-                tag: Tag([2, 1, 1, 1]),
-                stamp: first.ta,
-            },
-        )?;
-        Ok(Taken {
-            after: C1B::Done { own: *own, first },
-            opened,
-            got,
-        })
+        let got = Got {
+            slot: Slot::Ta,
+            sender: own.a,
+            tag: Tag([2, 1, 1, 1]),
+            stamp: first.ta,
+        };
+        judged_with(alloc, C1B::Done { own: *own, first }, opening, got)
     }
 
     fn say<S: Sealer, D: Draws>(

@@ -14,8 +14,8 @@ use seal_trait::Sealer;
 use std::alloc::Global;
 use term_values::{Name, Nonce, OutOfMemory, Stamp, Tag, Term, Text};
 use text_hooks::{
-    Hook, Reply, RoleState, SlotValue, Taken, body_of, check_item, judge_text, key_between,
-    message_of, nonce_at, one_opening, own_text, read_message, tag_term, text_at, text_term,
+    Hook, Reply, RoleState, SlotValue, Taken, body_of, key_between, nonce_at, noted, own_text,
+    read_message, reply_with, say_checked, take_text, text_at,
 };
 
 /// The parties, and the texts that A sends.
@@ -114,28 +114,33 @@ fn take_first<S: Sealer>(
         &[Clear::Slot(Slot::Rb), Clear::Slot(Slot::X1)],
         &[],
     )?;
-    let x1 = text_at(items, 2);
-    judge_text(hook, Mech::C2, Slot::X1, x1)?;
+    let x1 = take_text(alloc, hook, Mech::C2, Slot::X1, text_at(items, 2))?;
     Ok(First {
         rb: nonce_at(items, 1),
-        x1: x1.copy(alloc)?,
+        x1,
     })
 }
 
+/// The notes of a run that begins.
+fn start_notes(alloc: Global, own: &Own) -> Result<Notes, OutOfMemory>
+    ensures notes { IfOk result (λ ns. terms_of ns ≡ in_order (state_of (Start own.now)).notes) }
+    ensures kinds { IfOk result (λ ns. are_of_kinds ns ≡ true) }
+{
+    let notes = noted(alloc, Vec::new(alloc), Slot::X2, &own.x2)?;
+    let notes = noted(alloc, notes, Slot::X3, &own.x3)?;
+    Ok(Notes::new(notes))
+}
+
 /// The notes of a run that has heard the first message.
-fn notes_of(alloc: Global, own: &Own, first: &First) -> Result<Notes, OutOfMemory>
+fn heard_notes(alloc: Global, own: &Own, first: &First) -> Result<Notes, OutOfMemory>
     ensures notes { IfOk result (λ ns. terms_of ns ≡ in_order (state_of (Heard own.now first.now)).notes) }
     ensures kinds { IfOk result (λ ns. are_of_kinds ns ≡ true) }
 {
-    let x1 = Value::Text(first.x1.copy(alloc)?);
-    let x2 = Value::Text(own.x2.copy(alloc)?);
-    let x3 = Value::Text(own.x3.copy(alloc)?);
-    Ok(Notes::new(vec![in alloc;
-        (Slot::Rb, Value::Nonce(first.rb)),
-        (Slot::X1, x1),
-        (Slot::X2, x2),
-        (Slot::X3, x3),
-    ]?))
+    let notes = vec![in alloc; (Slot::Rb, Value::Nonce(first.rb))]?;
+    let notes = noted(alloc, notes, Slot::X1, &first.x1)?;
+    let notes = noted(alloc, notes, Slot::X2, &own.x2)?;
+    let notes = noted(alloc, notes, Slot::X3, &own.x3)?;
+    Ok(Notes::new(notes))
 }
 
 impl RoleState for C2A {
@@ -211,13 +216,9 @@ impl RoleState for C2A {
 
     fn notes(&self, alloc: Global) -> Result<Notes, OutOfMemory> {
         match self {
-            C2A::Start { own } => {
-                let x2 = Value::Text(own.x2.copy(alloc)?);
-                let x3 = Value::Text(own.x3.copy(alloc)?);
-                Ok(Notes::new(vec![in alloc; (Slot::X2, x2), (Slot::X3, x3)]?))
-            }
-            C2A::Heard { own, first } => notes_of(alloc, own, first),
-            C2A::Done { own, first } => notes_of(alloc, own, first),
+            C2A::Start { own } => start_notes(alloc, own),
+            C2A::Heard { own, first } => heard_notes(alloc, own, first),
+            C2A::Done { own, first } => heard_notes(alloc, own, first),
         }
     }
 
@@ -280,6 +281,10 @@ impl RoleState for C2A {
         let C2A::Heard { own, first } = self else {
             return Err(Refusal::WrongPass);
         };
+        let after = C2A::Done {
+            own: own.copy(alloc)?,
+            first: first.copy(alloc)?,
+        };
         let body = body_of(
             alloc,
             Tag([2, 2, 2, 1]),
@@ -287,20 +292,16 @@ impl RoleState for C2A {
             &[SlotValue::Nonce(first.rb)],
             &own.x2,
         )?;
-        let item = check_item(alloc, sealer, key_between(ring, own.a, own.b), body)?;
-        let sealed = one_opening(alloc, item)?;
-        let shown = vec![in alloc;
-            tag_term(Tag([2, 2, 2, 0])),
-            text_term(alloc, &own.x2)?,
-            text_term(alloc, &own.x3)?,
-        ]?;
-        let message = message_of(alloc, shown, sealed.as_slice())?;
-        let own = own.copy(alloc)?;
-        let first = first.copy(alloc)?;
-        Ok(Reply {
-            after: C2A::Done { own, first },
-            message,
-            sealed,
-        })
+        let said = say_checked(
+            alloc,
+            sealer,
+            key_between(ring, own.a, own.b),
+            body,
+            Tag([2, 2, 2, 0]),
+            None,
+            &own.x2,
+            &own.x3,
+        )?;
+        reply_with(alloc, after, said)
     }
 }

@@ -1,11 +1,20 @@
 ghost use Rattle.std.specs.Prelude.{◌≡◌, ◌≢◌, ◌∷◌, ◌↔◌, [], IsTrue, Ok, Err, IfOk, IfErr, true};
+ghost use Rattle.term_values.specs.Trees.{text};
+ghost use Rattle.term_values.specs.declared.small.Key.TheVariants.{One};
+ghost use Rattle.mech_rows.specs.declared.kinds.Clear.TheVariants.{Slot as Shown};
+ghost use Rattle.mech_rows.specs.declared.kinds.Slot.TheVariants.{X2, X3};
+ghost use Rattle.mech_rows.specs.Notes.{are_of_kinds, terms_of};
+ghost use Rattle.mech_rows.specs.Replies.{in_order};
 ghost use Rattle.mech_rows.specs.Rings.{keys_in};
+ghost use Rattle.mech_rows.specs.Runs.{bytes_or_empty};
 ghost use Rattle.mech_rows.specs.Openings.{has_parts};
-ghost use Rattle.mech_rows.specs.Verdict.{verdict};
+ghost use Rattle.mech_rows.specs.Verdict.{verdict, message_items, at};
 ghost use Rattle.mech_rows.specs.declared.refusal.Refusal.TheVariants.{Memory};
+ghost use Rattle.text_hooks.specs.Parts.{body_of};
 ghost use Rattle.text_hooks.specs.Rules.{allowed};
+ghost use Rattle.text_hooks.specs.declared.making.SlotValue.TheVariants.{Nonce as NonceValue};
 ghost use Rattle.roles_9798_4.specs.C2B.{state_of, head, is_c2b};
-ghost use Rattle.roles_9798_4.specs.declared.c2b.C2B.TheVariants.{Asked, Done};
+ghost use Rattle.roles_9798_4.specs.declared.c2b.C2B.TheVariants.{Start, Asked, Done};
 
 use mech_rows::{
     Clear, Mech, Notes, Opening, Refusal, Ring, Role, RunHead, Slot, Stated, Texts, Value,
@@ -15,9 +24,8 @@ use seal_trait::Sealer;
 use std::alloc::Global;
 use term_values::{Name, Nonce, OutOfMemory, Stamp, Tag, Term, Text};
 use text_hooks::{
-    Hook, Reply, RoleState, SlotValue, Taken, body_of, draw_nonce, item_at, judge_text,
-    key_between, message_of, nonce_term, one_opening, own_text, read_message, tag_term, test_item,
-    text_at, text_term,
+    Hook, Reply, RoleState, SlotValue, Taken, body_of, challenge, draw_nonce, item_at, key_between,
+    noted, own_text, read_in, read_message, take_text, taken_with, test_item, text_at,
 };
 
 /// The parties, and the text that B sends.
@@ -124,13 +132,63 @@ fn take_second<S: Sealer>(
     )?;
     let key = key_between(ring, own.a, own.b);
     let opening = test_item(alloc, sealer, key, body, item_at(items, 3), 1)?;
-    judge_text(hook, Mech::C2, Slot::X2, x2)?;
-    judge_text(hook, Mech::C2, Slot::X3, x3)?;
-    let second = Second {
-        x2: x2.copy(alloc)?,
-        x3: x3.copy(alloc)?,
-    };
-    Ok((second, opening))
+    let second = second_of::<S>(alloc, ring, hook, own, rb, term, items, x2, x3);
+    read_in(second, opening)
+}
+
+/// What the second message shows, whose items these are, and whose check holds.
+fn second_of<S: Sealer>(
+    alloc: Global,
+    ring: &Ring,
+    hook: &Hook,
+    own: &Own,
+    rb: &Nonce,
+    term: &Term,
+    items: &[Term],
+    x2: &Text,
+    x3: &Text,
+) -> Result<Second, Refusal>
+    requires items { message_items (2 ∷ 2 ∷ 2 ∷ 0 ∷ []) own.now.b (Shown X2 ∷ Shown X3 ∷ []) (true ∷ []) term.now ≡ Ok items.now }
+    requires x2 { at items.now 1 ≡ text x2.now }
+    requires x3 { at items.now 2 ≡ text x3.now }
+    requires checked { S.checks (One (bytes_or_empty (keys_in ring.now own.now.a own.now.b))) (body_of (2 ∷ 2 ∷ 2 ∷ 1 ∷ []) (own.now.a ∷ own.now.b ∷ []) (NonceValue rb.now ∷ []) x2.now) (at items.now 3) ≡ true }
+    ensures fit { IfOk result (λ s. verdict S.opens S.checks (keys_in ring.now) (allowed hook.now.rules.items) (state_of (Asked own.now rb.now)) term.now ≡ Ok (record { notes = (state_of (Done own.now rb.now s)).notes; opened = record { key = One (bytes_or_empty (keys_in ring.now own.now.a own.now.b)); item = at items.now 3; body = body_of (2 ∷ 2 ∷ 2 ∷ 1 ∷ []) (own.now.a ∷ own.now.b ∷ []) (NonceValue rb.now ∷ []) x2.now } ∷ []; got = [] })) }
+    ensures refused { IfErr result (λ e. e ≢ Memory → verdict S.opens S.checks (keys_in ring.now) (allowed hook.now.rules.items) (state_of (Asked own.now rb.now)) term.now ≡ Err e) }
+{
+    let x2 = take_text(alloc, hook, Mech::C2, Slot::X2, x2)?;
+    let x3 = take_text(alloc, hook, Mech::C2, Slot::X3, x3)?;
+    Ok(Second { x2, x3 })
+}
+
+/// The notes of a run that begins.
+fn start_notes(alloc: Global, own: &Own) -> Result<Notes, OutOfMemory>
+    ensures notes { IfOk result (λ ns. terms_of ns ≡ in_order (state_of (Start own.now)).notes) }
+    ensures kinds { IfOk result (λ ns. are_of_kinds ns ≡ true) }
+{
+    let notes = noted(alloc, Vec::new(alloc), Slot::X1, &own.x1)?;
+    Ok(Notes::new(notes))
+}
+
+/// The notes of a run that has sent the first message.
+fn asked_notes(alloc: Global, own: &Own, rb: &Nonce) -> Result<Notes, OutOfMemory>
+    ensures notes { IfOk result (λ ns. terms_of ns ≡ in_order (state_of (Asked own.now rb.now)).notes) }
+    ensures kinds { IfOk result (λ ns. are_of_kinds ns ≡ true) }
+{
+    let notes = vec![in alloc; (Slot::Rb, Value::Nonce(*rb))]?;
+    let notes = noted(alloc, notes, Slot::X1, &own.x1)?;
+    Ok(Notes::new(notes))
+}
+
+/// The notes of a run that has taken the second message.
+fn done_notes(alloc: Global, own: &Own, rb: &Nonce, second: &Second) -> Result<Notes, OutOfMemory>
+    ensures notes { IfOk result (λ ns. terms_of ns ≡ in_order (state_of (Done own.now rb.now second.now)).notes) }
+    ensures kinds { IfOk result (λ ns. are_of_kinds ns ≡ true) }
+{
+    let notes = vec![in alloc; (Slot::Rb, Value::Nonce(*rb))]?;
+    let notes = noted(alloc, notes, Slot::X1, &own.x1)?;
+    let notes = noted(alloc, notes, Slot::X2, &second.x2)?;
+    let notes = noted(alloc, notes, Slot::X3, &second.x3)?;
+    Ok(Notes::new(notes))
 }
 
 impl RoleState for C2B {
@@ -204,25 +262,9 @@ impl RoleState for C2B {
 
     fn notes(&self, alloc: Global) -> Result<Notes, OutOfMemory> {
         match self {
-            C2B::Start { own } => {
-                let x1 = Value::Text(own.x1.copy(alloc)?);
-                Ok(Notes::new(vec![in alloc; (Slot::X1, x1)]?))
-            }
-            C2B::Asked { own, rb } => {
-                let x1 = Value::Text(own.x1.copy(alloc)?);
-                Ok(Notes::new(vec![in alloc; (Slot::Rb, Value::Nonce(*rb)), (Slot::X1, x1)]?))
-            }
-            C2B::Done { own, rb, second } => {
-                let x1 = Value::Text(own.x1.copy(alloc)?);
-                let x2 = Value::Text(second.x2.copy(alloc)?);
-                let x3 = Value::Text(second.x3.copy(alloc)?);
-                Ok(Notes::new(vec![in alloc;
-                    (Slot::Rb, Value::Nonce(*rb)),
-                    (Slot::X1, x1),
-                    (Slot::X2, x2),
-                    (Slot::X3, x3),
-                ]?))
-            }
+            C2B::Start { own } => start_notes(alloc, own),
+            C2B::Asked { own, rb } => asked_notes(alloc, own, rb),
+            C2B::Done { own, rb, second } => done_notes(alloc, own, rb, second),
         }
     }
 
@@ -265,18 +307,14 @@ impl RoleState for C2B {
         let C2B::Asked { own, rb } = self else {
             return Err(Refusal::WrongPass);
         };
+        let kept = own.copy(alloc)?;
         let (second, opening) = take_second(alloc, sealer, ring, hook, own, rb, term)?;
-        let opened = one_opening(alloc, opening)?;
-        let own = own.copy(alloc)?;
-        Ok(Taken {
-            after: C2B::Done {
-                own,
-                rb: *rb,
-                second,
-            },
-            opened,
-            got: Vec::new(alloc),
-        })
+        let after = C2B::Done {
+            own: kept,
+            rb: *rb,
+            second,
+        };
+        taken_with(alloc, after, opening)
     }
 
     fn say<S: Sealer, D: Draws>(
@@ -291,13 +329,8 @@ impl RoleState for C2B {
             return Err(Refusal::WrongPass);
         };
         let rb = draw_nonce(draws)?;
-        let shown = vec![in alloc;
-            tag_term(Tag([2, 2, 1, 0])),
-            nonce_term(&rb),
-            text_term(alloc, &own.x1)?,
-        ]?;
-        let message = message_of(alloc, shown, &[])?;
         let own = own.copy(alloc)?;
+        let message = challenge(alloc, Tag([2, 2, 1, 0]), &rb, &own.x1)?;
         Ok(Reply {
             after: C2B::Asked { own, rb },
             message,

@@ -1,12 +1,20 @@
 ghost use Rattle.std.specs.Prelude.{◌≡◌, ◌≢◌, ◌↔◌, ◌∷◌, [], IsTrue, Ok, Err, IfOk, IfErr, true};
+ghost use Rattle.term_values.specs.Trees.{stamp, text};
+ghost use Rattle.term_values.specs.declared.small.Key.TheVariants.{One};
+ghost use Rattle.mech_rows.specs.declared.kinds.Clear.TheVariants.{Slot as Shown};
+ghost use Rattle.mech_rows.specs.declared.kinds.Slot.TheVariants.{Tb, X3, X4};
+ghost use Rattle.mech_rows.specs.Notes.{are_of_kinds, terms_of};
+ghost use Rattle.mech_rows.specs.Replies.{in_order};
 ghost use Rattle.mech_rows.specs.Rings.{keys_in};
+ghost use Rattle.mech_rows.specs.Runs.{bytes_or_empty};
 ghost use Rattle.mech_rows.specs.Openings.{has_parts};
-ghost use Rattle.mech_rows.specs.Verdict.{verdict};
+ghost use Rattle.mech_rows.specs.Verdict.{verdict, message_items, at};
 ghost use Rattle.mech_rows.specs.declared.refusal.Refusal.TheVariants.{Memory};
+ghost use Rattle.text_hooks.specs.Parts.{body_of};
 ghost use Rattle.text_hooks.specs.Rules.{allowed};
-ghost use Rattle.mech_rows.specs.declared.kinds.Slot.TheVariants.{Tb};
+ghost use Rattle.text_hooks.specs.declared.making.SlotValue.TheVariants.{Stamp as StampValue};
 ghost use Rattle.roles_9798_4.specs.C3A.{state_of, head, is_c3a};
-ghost use Rattle.roles_9798_4.specs.declared.c3a.C3A.TheVariants.{Asked, Done};
+ghost use Rattle.roles_9798_4.specs.declared.c3a.C3A.TheVariants.{Start, Asked, Done};
 
 use mech_rows::{
     Clear, Got, Mech, Notes, Opening, Refusal, Ring, Role, RunHead, Slot, Stated, Texts, Value,
@@ -16,9 +24,9 @@ use seal_trait::Sealer;
 use std::alloc::Global;
 use term_values::{Name, OutOfMemory, Stamp, Tag, Term, Text};
 use text_hooks::{
-    Hook, Reply, RoleState, SlotValue, Taken, body_of, check_item, item_at, judge_text,
-    key_between, message_of, one_opening, one_stamp, own_text, read_message, stamp_at, stamp_term,
-    tag_term, test_item, text_at, text_term,
+    Hook, Reply, RoleState, SlotValue, Taken, body_of, item_at, judged_with, key_between, noted,
+    own_text, read_in, read_message, reply_with, say_checked, stamp_at, take_text, test_item,
+    text_at,
 };
 
 /// The parties, and the texts that A sends.
@@ -141,14 +149,71 @@ fn take_second<S: Sealer>(
     )?;
     let key = key_between(ring, own.a, own.b);
     let opening = test_item(alloc, sealer, key, body, item_at(items, 4), 1)?;
-    judge_text(hook, Mech::C3, Slot::X3, x3)?;
-    judge_text(hook, Mech::C3, Slot::X4, x4)?;
-    let second = Second {
-        tb,
-        x3: x3.copy(alloc)?,
-        x4: x4.copy(alloc)?,
-    };
-    Ok((second, opening))
+    let second = second_of::<S>(alloc, ring, hook, own, ta, term, items, tb, x3, x4);
+    read_in(second, opening)
+}
+
+/// What the second message shows, whose items these are, and whose check holds.
+fn second_of<S: Sealer>(
+    alloc: Global,
+    ring: &Ring,
+    hook: &Hook,
+    own: &Own,
+    ta: &Stamp,
+    term: &Term,
+    items: &[Term],
+    tb: Stamp,
+    x3: &Text,
+    x4: &Text,
+) -> Result<Second, Refusal>
+    requires items { message_items (2 ∷ 3 ∷ 2 ∷ 0 ∷ []) own.now.b (Shown Tb ∷ Shown X3 ∷ Shown X4 ∷ []) (true ∷ []) term.now ≡ Ok items.now }
+    requires tb { at items.now 1 ≡ stamp tb }
+    requires x3 { at items.now 2 ≡ text x3.now }
+    requires x4 { at items.now 3 ≡ text x4.now }
+    requires checked { S.checks (One (bytes_or_empty (keys_in ring.now own.now.a own.now.b))) (body_of (2 ∷ 3 ∷ 2 ∷ 1 ∷ []) (own.now.a ∷ own.now.b ∷ []) (StampValue tb ∷ []) x3.now) (at items.now 4) ≡ true }
+    ensures fit { IfOk result (λ s. verdict S.opens S.checks (keys_in ring.now) (allowed hook.now.rules.items) (state_of (Asked own.now ta.now)) term.now ≡ Ok (record { notes = (state_of (Done own.now ta.now s)).notes; opened = record { key = One (bytes_or_empty (keys_in ring.now own.now.a own.now.b)); item = at items.now 4; body = body_of (2 ∷ 3 ∷ 2 ∷ 1 ∷ []) (own.now.a ∷ own.now.b ∷ []) (StampValue tb ∷ []) x3.now } ∷ []; got = record { slot = Tb; sender = own.now.b; tagged = 2 ∷ 3 ∷ 2 ∷ 1 ∷ []; stamp = s.tb } ∷ [] })) }
+    ensures refused { IfErr result (λ e. e ≢ Memory → verdict S.opens S.checks (keys_in ring.now) (allowed hook.now.rules.items) (state_of (Asked own.now ta.now)) term.now ≡ Err e) }
+{
+    let x3 = take_text(alloc, hook, Mech::C3, Slot::X3, x3)?;
+    let x4 = take_text(alloc, hook, Mech::C3, Slot::X4, x4)?;
+    Ok(Second { tb, x3, x4 })
+}
+
+/// The notes of a run that begins.
+fn start_notes(alloc: Global, own: &Own) -> Result<Notes, OutOfMemory>
+    ensures notes { IfOk result (λ ns. terms_of ns ≡ in_order (state_of (Start own.now)).notes) }
+    ensures kinds { IfOk result (λ ns. are_of_kinds ns ≡ true) }
+{
+    let notes = noted(alloc, Vec::new(alloc), Slot::X1, &own.x1)?;
+    let notes = noted(alloc, notes, Slot::X2, &own.x2)?;
+    Ok(Notes::new(notes))
+}
+
+/// The notes of a run that has sent the first message.
+fn asked_notes(alloc: Global, own: &Own, ta: &Stamp) -> Result<Notes, OutOfMemory>
+    ensures notes { IfOk result (λ ns. terms_of ns ≡ in_order (state_of (Asked own.now ta.now)).notes) }
+    ensures kinds { IfOk result (λ ns. are_of_kinds ns ≡ true) }
+{
+    let notes = vec![in alloc; (Slot::Ta, Value::Stamp(*ta))]?;
+    let notes = noted(alloc, notes, Slot::X1, &own.x1)?;
+    let notes = noted(alloc, notes, Slot::X2, &own.x2)?;
+    Ok(Notes::new(notes))
+}
+
+/// The notes of a run that has taken the second message.
+fn done_notes(alloc: Global, own: &Own, ta: &Stamp, second: &Second) -> Result<Notes, OutOfMemory>
+    ensures notes { IfOk result (λ ns. terms_of ns ≡ in_order (state_of (Done own.now ta.now second.now)).notes) }
+    ensures kinds { IfOk result (λ ns. are_of_kinds ns ≡ true) }
+{
+    let notes = vec![in alloc;
+        (Slot::Ta, Value::Stamp(*ta)),
+        (Slot::Tb, Value::Stamp(second.tb)),
+    ]?;
+    let notes = noted(alloc, notes, Slot::X1, &own.x1)?;
+    let notes = noted(alloc, notes, Slot::X2, &own.x2)?;
+    let notes = noted(alloc, notes, Slot::X3, &second.x3)?;
+    let notes = noted(alloc, notes, Slot::X4, &second.x4)?;
+    Ok(Notes::new(notes))
 }
 
 impl RoleState for C3A {
@@ -223,34 +288,9 @@ impl RoleState for C3A {
 
     fn notes(&self, alloc: Global) -> Result<Notes, OutOfMemory> {
         match self {
-            C3A::Start { own } => {
-                let x1 = Value::Text(own.x1.copy(alloc)?);
-                let x2 = Value::Text(own.x2.copy(alloc)?);
-                Ok(Notes::new(vec![in alloc; (Slot::X1, x1), (Slot::X2, x2)]?))
-            }
-            C3A::Asked { own, ta } => {
-                let x1 = Value::Text(own.x1.copy(alloc)?);
-                let x2 = Value::Text(own.x2.copy(alloc)?);
-                Ok(Notes::new(vec![in alloc;
-                    (Slot::Ta, Value::Stamp(*ta)),
-                    (Slot::X1, x1),
-                    (Slot::X2, x2),
-                ]?))
-            }
-            C3A::Done { own, ta, second } => {
-                let x1 = Value::Text(own.x1.copy(alloc)?);
-                let x2 = Value::Text(own.x2.copy(alloc)?);
-                let x3 = Value::Text(second.x3.copy(alloc)?);
-                let x4 = Value::Text(second.x4.copy(alloc)?);
-                Ok(Notes::new(vec![in alloc;
-                    (Slot::Ta, Value::Stamp(*ta)),
-                    (Slot::Tb, Value::Stamp(second.tb)),
-                    (Slot::X1, x1),
-                    (Slot::X2, x2),
-                    (Slot::X3, x3),
-                    (Slot::X4, x4),
-                ]?))
-            }
+            C3A::Start { own } => start_notes(alloc, own),
+            C3A::Asked { own, ta } => asked_notes(alloc, own, ta),
+            C3A::Done { own, ta, second } => done_notes(alloc, own, ta, second),
         }
     }
 
@@ -293,27 +333,20 @@ impl RoleState for C3A {
         let C3A::Asked { own, ta } = self else {
             return Err(Refusal::WrongPass);
         };
+        let kept = own.copy(alloc)?;
         let (second, opening) = take_second(alloc, sealer, ring, hook, own, ta, term)?;
-        let opened = one_opening(alloc, opening)?;
-        let got = one_stamp(
-            alloc,
-            Got {
-                slot: Slot::Tb,
-                sender: own.b,
-                tag: Tag([2, 3, 2, 1]),
-                stamp: second.tb,
-            },
-        )?;
-        let own = own.copy(alloc)?;
-        Ok(Taken {
-            after: C3A::Done {
-                own,
-                ta: *ta,
-                second,
-            },
-            opened,
-            got,
-        })
+        let got = Got {
+            slot: Slot::Tb,
+            sender: own.b,
+            tag: Tag([2, 3, 2, 1]),
+            stamp: second.tb,
+        };
+        let after = C3A::Done {
+            own: kept,
+            ta: *ta,
+            second,
+        };
+        judged_with(alloc, after, opening, got)
     }
 
     fn say<S: Sealer, D: Draws>(
@@ -330,6 +363,10 @@ impl RoleState for C3A {
         let Some(ta) = stamp else {
             unreachable!();
         };
+        let after = C3A::Asked {
+            own: own.copy(alloc)?,
+            ta,
+        };
         let body = body_of(
             alloc,
             Tag([2, 3, 1, 1]),
@@ -337,20 +374,16 @@ impl RoleState for C3A {
             &[SlotValue::Stamp(ta)],
             &own.x1,
         )?;
-        let item = check_item(alloc, sealer, key_between(ring, own.a, own.b), body)?;
-        let sealed = one_opening(alloc, item)?;
-        let shown = vec![in alloc;
-            tag_term(Tag([2, 3, 1, 0])),
-            stamp_term(ta),
-            text_term(alloc, &own.x1)?,
-            text_term(alloc, &own.x2)?,
-        ]?;
-        let message = message_of(alloc, shown, sealed.as_slice())?;
-        let own = own.copy(alloc)?;
-        Ok(Reply {
-            after: C3A::Asked { own, ta },
-            message,
-            sealed,
-        })
+        let said = say_checked(
+            alloc,
+            sealer,
+            key_between(ring, own.a, own.b),
+            body,
+            Tag([2, 3, 1, 0]),
+            Some(SlotValue::Stamp(ta)),
+            &own.x1,
+            &own.x2,
+        )?;
+        reply_with(alloc, after, said)
     }
 }

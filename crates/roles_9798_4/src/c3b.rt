@@ -1,12 +1,20 @@
 ghost use Rattle.std.specs.Prelude.{◌≡◌, ◌≢◌, ◌↔◌, ◌∷◌, [], IsTrue, Ok, Err, IfOk, IfErr, true};
+ghost use Rattle.term_values.specs.Trees.{stamp, text};
+ghost use Rattle.term_values.specs.declared.small.Key.TheVariants.{One};
+ghost use Rattle.mech_rows.specs.declared.kinds.Clear.TheVariants.{Slot as Shown};
+ghost use Rattle.mech_rows.specs.declared.kinds.Slot.TheVariants.{Ta, X1, X2};
+ghost use Rattle.mech_rows.specs.Notes.{are_of_kinds, terms_of};
+ghost use Rattle.mech_rows.specs.Replies.{in_order};
 ghost use Rattle.mech_rows.specs.Rings.{keys_in};
+ghost use Rattle.mech_rows.specs.Runs.{bytes_or_empty};
 ghost use Rattle.mech_rows.specs.Openings.{has_parts};
-ghost use Rattle.mech_rows.specs.Verdict.{verdict};
+ghost use Rattle.mech_rows.specs.Verdict.{verdict, message_items, at};
 ghost use Rattle.mech_rows.specs.declared.refusal.Refusal.TheVariants.{Memory};
+ghost use Rattle.text_hooks.specs.Parts.{body_of};
 ghost use Rattle.text_hooks.specs.Rules.{allowed};
-ghost use Rattle.mech_rows.specs.declared.kinds.Slot.TheVariants.{Ta};
+ghost use Rattle.text_hooks.specs.declared.making.SlotValue.TheVariants.{Stamp as StampValue};
 ghost use Rattle.roles_9798_4.specs.C3B.{state_of, head, is_c3b};
-ghost use Rattle.roles_9798_4.specs.declared.c3b.C3B.TheVariants.{Start, Heard};
+ghost use Rattle.roles_9798_4.specs.declared.c3b.C3B.TheVariants.{Start, Heard, Done};
 
 use mech_rows::{
     Clear, Got, Mech, Notes, Opening, Refusal, Ring, Role, RunHead, Slot, Stated, Texts, Value,
@@ -16,9 +24,9 @@ use seal_trait::Sealer;
 use std::alloc::Global;
 use term_values::{Name, OutOfMemory, Stamp, Tag, Term, Text};
 use text_hooks::{
-    Hook, Reply, RoleState, SlotValue, Taken, body_of, check_item, item_at, judge_text,
-    key_between, message_of, one_opening, one_stamp, own_text, read_message, stamp_at, stamp_term,
-    tag_term, test_item, text_at, text_term,
+    Hook, Reply, RoleState, SlotValue, Taken, body_of, item_at, judged_with, key_between, noted,
+    own_text, read_in, read_message, reply_with, say_checked, stamp_at, take_text, test_item,
+    text_at,
 };
 
 /// The parties, and the texts that B sends.
@@ -140,14 +148,72 @@ fn take_first<S: Sealer>(
     )?;
     let key = key_between(ring, own.a, own.b);
     let opening = test_item(alloc, sealer, key, body, item_at(items, 4), 1)?;
-    judge_text(hook, Mech::C3, Slot::X1, x1)?;
-    judge_text(hook, Mech::C3, Slot::X2, x2)?;
-    let first = First {
-        ta,
-        x1: x1.copy(alloc)?,
-        x2: x2.copy(alloc)?,
-    };
-    Ok((first, opening))
+    let first = first_of::<S>(alloc, ring, hook, own, term, items, ta, x1, x2);
+    read_in(first, opening)
+}
+
+/// What the first message shows, whose items these are, and whose check holds.
+fn first_of<S: Sealer>(
+    alloc: Global,
+    ring: &Ring,
+    hook: &Hook,
+    own: &Own,
+    term: &Term,
+    items: &[Term],
+    ta: Stamp,
+    x1: &Text,
+    x2: &Text,
+) -> Result<First, Refusal>
+    requires items { message_items (2 ∷ 3 ∷ 1 ∷ 0 ∷ []) own.now.b (Shown Ta ∷ Shown X1 ∷ Shown X2 ∷ []) (true ∷ []) term.now ≡ Ok items.now }
+    requires ta { at items.now 1 ≡ stamp ta }
+    requires x1 { at items.now 2 ≡ text x1.now }
+    requires x2 { at items.now 3 ≡ text x2.now }
+    requires checked { S.checks (One (bytes_or_empty (keys_in ring.now own.now.a own.now.b))) (body_of (2 ∷ 3 ∷ 1 ∷ 1 ∷ []) (own.now.a ∷ own.now.b ∷ []) (StampValue ta ∷ []) x1.now) (at items.now 4) ≡ true }
+    ensures fit { IfOk result (λ f. verdict S.opens S.checks (keys_in ring.now) (allowed hook.now.rules.items) (state_of (Start own.now)) term.now ≡ Ok (record { notes = (state_of (Heard own.now f)).notes; opened = record { key = One (bytes_or_empty (keys_in ring.now own.now.a own.now.b)); item = at items.now 4; body = body_of (2 ∷ 3 ∷ 1 ∷ 1 ∷ []) (own.now.a ∷ own.now.b ∷ []) (StampValue ta ∷ []) x1.now } ∷ []; got = record { slot = Ta; sender = own.now.a; tagged = 2 ∷ 3 ∷ 1 ∷ 1 ∷ []; stamp = f.ta } ∷ [] })) }
+    ensures refused { IfErr result (λ e. e ≢ Memory → verdict S.opens S.checks (keys_in ring.now) (allowed hook.now.rules.items) (state_of (Start own.now)) term.now ≡ Err e) }
+{
+    let x1 = take_text(alloc, hook, Mech::C3, Slot::X1, x1)?;
+    let x2 = take_text(alloc, hook, Mech::C3, Slot::X2, x2)?;
+    Ok(First { ta, x1, x2 })
+}
+
+/// The notes of a run that begins.
+fn start_notes(alloc: Global, own: &Own) -> Result<Notes, OutOfMemory>
+    ensures notes { IfOk result (λ ns. terms_of ns ≡ in_order (state_of (Start own.now)).notes) }
+    ensures kinds { IfOk result (λ ns. are_of_kinds ns ≡ true) }
+{
+    let notes = noted(alloc, Vec::new(alloc), Slot::X3, &own.x3)?;
+    let notes = noted(alloc, notes, Slot::X4, &own.x4)?;
+    Ok(Notes::new(notes))
+}
+
+/// The notes of a run that has heard the first message.
+fn heard_notes(alloc: Global, own: &Own, first: &First) -> Result<Notes, OutOfMemory>
+    ensures notes { IfOk result (λ ns. terms_of ns ≡ in_order (state_of (Heard own.now first.now)).notes) }
+    ensures kinds { IfOk result (λ ns. are_of_kinds ns ≡ true) }
+{
+    let notes = vec![in alloc; (Slot::Ta, Value::Stamp(first.ta))]?;
+    let notes = noted(alloc, notes, Slot::X1, &first.x1)?;
+    let notes = noted(alloc, notes, Slot::X2, &first.x2)?;
+    let notes = noted(alloc, notes, Slot::X3, &own.x3)?;
+    let notes = noted(alloc, notes, Slot::X4, &own.x4)?;
+    Ok(Notes::new(notes))
+}
+
+/// The notes of a run that has sent the second message.
+fn done_notes(alloc: Global, own: &Own, first: &First, tb: &Stamp) -> Result<Notes, OutOfMemory>
+    ensures notes { IfOk result (λ ns. terms_of ns ≡ in_order (state_of (Done own.now first.now tb.now)).notes) }
+    ensures kinds { IfOk result (λ ns. are_of_kinds ns ≡ true) }
+{
+    let notes = vec![in alloc;
+        (Slot::Ta, Value::Stamp(first.ta)),
+        (Slot::Tb, Value::Stamp(*tb)),
+    ]?;
+    let notes = noted(alloc, notes, Slot::X1, &first.x1)?;
+    let notes = noted(alloc, notes, Slot::X2, &first.x2)?;
+    let notes = noted(alloc, notes, Slot::X3, &own.x3)?;
+    let notes = noted(alloc, notes, Slot::X4, &own.x4)?;
+    Ok(Notes::new(notes))
 }
 
 impl RoleState for C3B {
@@ -228,38 +294,9 @@ impl RoleState for C3B {
 
     fn notes(&self, alloc: Global) -> Result<Notes, OutOfMemory> {
         match self {
-            C3B::Start { own } => {
-                let x3 = Value::Text(own.x3.copy(alloc)?);
-                let x4 = Value::Text(own.x4.copy(alloc)?);
-                Ok(Notes::new(vec![in alloc; (Slot::X3, x3), (Slot::X4, x4)]?))
-            }
-            C3B::Heard { own, first } => {
-                let x1 = Value::Text(first.x1.copy(alloc)?);
-                let x2 = Value::Text(first.x2.copy(alloc)?);
-                let x3 = Value::Text(own.x3.copy(alloc)?);
-                let x4 = Value::Text(own.x4.copy(alloc)?);
-                Ok(Notes::new(vec![in alloc;
-                    (Slot::Ta, Value::Stamp(first.ta)),
-                    (Slot::X1, x1),
-                    (Slot::X2, x2),
-                    (Slot::X3, x3),
-                    (Slot::X4, x4),
-                ]?))
-            }
-            C3B::Done { own, first, tb } => {
-                let x1 = Value::Text(first.x1.copy(alloc)?);
-                let x2 = Value::Text(first.x2.copy(alloc)?);
-                let x3 = Value::Text(own.x3.copy(alloc)?);
-                let x4 = Value::Text(own.x4.copy(alloc)?);
-                Ok(Notes::new(vec![in alloc;
-                    (Slot::Ta, Value::Stamp(first.ta)),
-                    (Slot::Tb, Value::Stamp(*tb)),
-                    (Slot::X1, x1),
-                    (Slot::X2, x2),
-                    (Slot::X3, x3),
-                    (Slot::X4, x4),
-                ]?))
-            }
+            C3B::Start { own } => start_notes(alloc, own),
+            C3B::Heard { own, first } => heard_notes(alloc, own, first),
+            C3B::Done { own, first, tb } => done_notes(alloc, own, first, tb),
         }
     }
 
@@ -302,23 +339,16 @@ impl RoleState for C3B {
         let C3B::Start { own } = self else {
             return Err(Refusal::WrongPass);
         };
+        let kept = own.copy(alloc)?;
         let (first, opening) = take_first(alloc, sealer, ring, hook, own, term)?;
-        let opened = one_opening(alloc, opening)?;
-        let got = one_stamp(
-            alloc,
-            Got {
-                slot: Slot::Ta,
-                sender: own.a,
-                tag: Tag([2, 3, 1, 1]),
-                stamp: first.ta,
-            },
-        )?;
-        let own = own.copy(alloc)?;
-        Ok(Taken {
-            after: C3B::Heard { own, first },
-            opened,
-            got,
-        })
+        let got = Got {
+            slot: Slot::Ta,
+            sender: own.a,
+            tag: Tag([2, 3, 1, 1]),
+            stamp: first.ta,
+        };
+        let after = C3B::Heard { own: kept, first };
+        judged_with(alloc, after, opening, got)
     }
 
     fn say<S: Sealer, D: Draws>(
@@ -335,6 +365,11 @@ impl RoleState for C3B {
         let Some(tb) = stamp else {
             unreachable!();
         };
+        let after = C3B::Done {
+            own: own.copy(alloc)?,
+            first: first.copy(alloc)?,
+            tb,
+        };
         let body = body_of(
             alloc,
             Tag([2, 3, 2, 1]),
@@ -342,21 +377,16 @@ impl RoleState for C3B {
             &[SlotValue::Stamp(tb)],
             &own.x3,
         )?;
-        let item = check_item(alloc, sealer, key_between(ring, own.a, own.b), body)?;
-        let sealed = one_opening(alloc, item)?;
-        let shown = vec![in alloc;
-            tag_term(Tag([2, 3, 2, 0])),
-            stamp_term(tb),
-            text_term(alloc, &own.x3)?,
-            text_term(alloc, &own.x4)?,
-        ]?;
-        let message = message_of(alloc, shown, sealed.as_slice())?;
-        let own = own.copy(alloc)?;
-        let first = first.copy(alloc)?;
-        Ok(Reply {
-            after: C3B::Done { own, first, tb },
-            message,
-            sealed,
-        })
+        let said = say_checked(
+            alloc,
+            sealer,
+            key_between(ring, own.a, own.b),
+            body,
+            Tag([2, 3, 2, 0]),
+            Some(SlotValue::Stamp(tb)),
+            &own.x3,
+            &own.x4,
+        )?;
+        reply_with(alloc, after, said)
     }
 }

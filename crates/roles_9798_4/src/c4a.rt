@@ -1,13 +1,18 @@
 ghost use Rattle.std.specs.Prelude.{◌≡◌, ◌≢◌, ◌↔◌, ◌∷◌, [], IsTrue, Ok, Err, IfOk, IfErr, true};
+ghost use Rattle.term_values.specs.Trees.{text};
+ghost use Rattle.term_values.specs.declared.small.Key.TheVariants.{One};
+ghost use Rattle.mech_rows.specs.declared.kinds.Clear.TheVariants.{Slot as Shown};
+ghost use Rattle.mech_rows.specs.declared.kinds.Slot.TheVariants.{X4, X5};
 ghost use Rattle.mech_rows.specs.Notes.{are_of_kinds, terms_of};
 ghost use Rattle.mech_rows.specs.Replies.{in_order};
 ghost use Rattle.mech_rows.specs.Rings.{keys_in};
+ghost use Rattle.mech_rows.specs.Runs.{bytes_or_empty};
 ghost use Rattle.mech_rows.specs.Openings.{has_parts};
-ghost use Rattle.mech_rows.specs.Verdict.{verdict};
+ghost use Rattle.mech_rows.specs.Verdict.{verdict, message_items, at};
 ghost use Rattle.mech_rows.specs.declared.refusal.Refusal.TheVariants.{Memory};
-ghost use Rattle.term_values.specs.Trees.{tag, nonce, text};
-ghost use Rattle.text_hooks.specs.Parts.{AreSmall};
+ghost use Rattle.text_hooks.specs.Parts.{body_of};
 ghost use Rattle.text_hooks.specs.Rules.{allowed};
+ghost use Rattle.text_hooks.specs.declared.making.SlotValue.TheVariants.{Nonce as NonceValue};
 ghost use Rattle.roles_9798_4.specs.C4A.{state_of, head, is_c4a};
 ghost use Rattle.roles_9798_4.specs.declared.c4a.C4A.TheVariants.{Start, Heard, Asked, Done};
 
@@ -19,9 +24,9 @@ use seal_trait::Sealer;
 use std::alloc::Global;
 use term_values::{Name, Nonce, OutOfMemory, Stamp, Tag, Term, Text};
 use text_hooks::{
-    Hook, Reply, RoleState, SlotValue, Taken, body_of, check_item, draw_nonce, item_at, judge_text,
-    key_between, message_of, nonce_at, nonce_term, one_opening, own_text, read_message, tag_term,
-    test_item, text_at, text_term,
+    Hook, Reply, RoleState, SlotValue, Taken, body_of, draw_nonce, item_at, key_between, nonce_at,
+    noted, own_text, read_in, read_message, reply_with, say_checked, take_text, taken_with,
+    test_item, text_at,
 };
 
 /// The parties, and the texts that A sends.
@@ -162,11 +167,10 @@ fn take_first<S: Sealer>(
         &[Clear::Slot(Slot::Rb), Clear::Slot(Slot::X1)],
         &[],
     )?;
-    let x1 = text_at(items, 2);
-    judge_text(hook, Mech::C4, Slot::X1, x1)?;
+    let x1 = take_text(alloc, hook, Mech::C4, Slot::X1, text_at(items, 2))?;
     Ok(First {
         rb: nonce_at(items, 1),
-        x1: x1.copy(alloc)?,
+        x1,
     })
 }
 
@@ -203,24 +207,70 @@ fn take_third<S: Sealer>(
     )?;
     let key = key_between(ring, own.a, own.b);
     let opening = test_item(alloc, sealer, key, body, item_at(items, 3), 1)?;
-    judge_text(hook, Mech::C4, Slot::X4, x4)?;
-    judge_text(hook, Mech::C4, Slot::X5, x5)?;
-    let third = Third {
-        x4: x4.copy(alloc)?,
-        x5: x5.copy(alloc)?,
-    };
-    Ok((third, opening))
+    let third = third_of::<S>(alloc, ring, hook, own, first, ra, term, items, x4, x5);
+    read_in(third, opening)
 }
 
-/// What the second message shows.
-fn second_shown(alloc: Global, own: &Own, ra: &Nonce) -> Result<Vec<Term>, Refusal>
-    ensures shown { IfOk result (λ ts. ts.items ≡ tag (2 ∷ 4 ∷ 2 ∷ 0 ∷ []) ∷ nonce ra.now ∷ text own.now.x2 ∷ text own.now.x3 ∷ []) }
-    ensures small { IfOk result (λ ts. AreSmall 1027 ts.items) }
-    ensures memory { IfErr result (λ e. e ≡ Memory) }
+/// What the third message shows, whose items these are, and whose check holds.
+fn third_of<S: Sealer>(
+    alloc: Global,
+    ring: &Ring,
+    hook: &Hook,
+    own: &Own,
+    first: &First,
+    ra: &Nonce,
+    term: &Term,
+    items: &[Term],
+    x4: &Text,
+    x5: &Text,
+) -> Result<Third, Refusal>
+    requires items { message_items (2 ∷ 4 ∷ 3 ∷ 0 ∷ []) own.now.b (Shown X4 ∷ Shown X5 ∷ []) (true ∷ []) term.now ≡ Ok items.now }
+    requires x4 { at items.now 1 ≡ text x4.now }
+    requires x5 { at items.now 2 ≡ text x5.now }
+    requires checked { S.checks (One (bytes_or_empty (keys_in ring.now own.now.a own.now.b))) (body_of (2 ∷ 4 ∷ 3 ∷ 1 ∷ []) (own.now.a ∷ own.now.b ∷ []) (NonceValue first.now.rb ∷ NonceValue ra.now ∷ []) x4.now) (at items.now 3) ≡ true }
+    ensures fit { IfOk result (λ t. verdict S.opens S.checks (keys_in ring.now) (allowed hook.now.rules.items) (state_of (Asked own.now first.now ra.now)) term.now ≡ Ok (record { notes = (state_of (Done own.now first.now ra.now t)).notes; opened = record { key = One (bytes_or_empty (keys_in ring.now own.now.a own.now.b)); item = at items.now 3; body = body_of (2 ∷ 4 ∷ 3 ∷ 1 ∷ []) (own.now.a ∷ own.now.b ∷ []) (NonceValue first.now.rb ∷ NonceValue ra.now ∷ []) x4.now } ∷ []; got = [] })) }
+    ensures refused { IfErr result (λ e. e ≢ Memory → verdict S.opens S.checks (keys_in ring.now) (allowed hook.now.rules.items) (state_of (Asked own.now first.now ra.now)) term.now ≡ Err e) }
 {
-    let x2 = text_term(alloc, &own.x2)?;
-    let x3 = text_term(alloc, &own.x3)?;
-    Ok(vec![in alloc; tag_term(Tag([2, 4, 2, 0])), nonce_term(ra), x2, x3]?)
+    let x4 = take_text(alloc, hook, Mech::C4, Slot::X4, x4)?;
+    let x5 = take_text(alloc, hook, Mech::C4, Slot::X5, x5)?;
+    Ok(Third { x4, x5 })
+}
+
+/// The notes of a run that begins.
+fn start_notes(alloc: Global, own: &Own) -> Result<Notes, OutOfMemory>
+    ensures notes { IfOk result (λ ns. terms_of ns ≡ in_order (state_of (Start own.now)).notes) }
+    ensures kinds { IfOk result (λ ns. are_of_kinds ns ≡ true) }
+{
+    let notes = noted(alloc, Vec::new(alloc), Slot::X2, &own.x2)?;
+    let notes = noted(alloc, notes, Slot::X3, &own.x3)?;
+    Ok(Notes::new(notes))
+}
+
+/// The notes of a run that has heard the first message.
+fn heard_notes(alloc: Global, own: &Own, first: &First) -> Result<Notes, OutOfMemory>
+    ensures notes { IfOk result (λ ns. terms_of ns ≡ in_order (state_of (Heard own.now first.now)).notes) }
+    ensures kinds { IfOk result (λ ns. are_of_kinds ns ≡ true) }
+{
+    let notes = vec![in alloc; (Slot::Rb, Value::Nonce(first.rb))]?;
+    let notes = noted(alloc, notes, Slot::X1, &first.x1)?;
+    let notes = noted(alloc, notes, Slot::X2, &own.x2)?;
+    let notes = noted(alloc, notes, Slot::X3, &own.x3)?;
+    Ok(Notes::new(notes))
+}
+
+/// The notes of a run that has sent the second message.
+fn asked_notes(alloc: Global, own: &Own, first: &First, ra: &Nonce) -> Result<Notes, OutOfMemory>
+    ensures notes { IfOk result (λ ns. terms_of ns ≡ in_order (state_of (Asked own.now first.now ra.now)).notes) }
+    ensures kinds { IfOk result (λ ns. are_of_kinds ns ≡ true) }
+{
+    let notes = vec![in alloc;
+        (Slot::Ra, Value::Nonce(*ra)),
+        (Slot::Rb, Value::Nonce(first.rb)),
+    ]?;
+    let notes = noted(alloc, notes, Slot::X1, &first.x1)?;
+    let notes = noted(alloc, notes, Slot::X2, &own.x2)?;
+    let notes = noted(alloc, notes, Slot::X3, &own.x3)?;
+    Ok(Notes::new(notes))
 }
 
 /// The notes of a run that has taken the third message.
@@ -234,20 +284,16 @@ fn done_notes(
     ensures notes { IfOk result (λ ns. terms_of ns ≡ in_order (state_of (Done own.now first.now ra.now third.now)).notes) }
     ensures kinds { IfOk result (λ ns. are_of_kinds ns ≡ true) }
 {
-    let x1 = Value::Text(first.x1.copy(alloc)?);
-    let x2 = Value::Text(own.x2.copy(alloc)?);
-    let x3 = Value::Text(own.x3.copy(alloc)?);
-    let x4 = Value::Text(third.x4.copy(alloc)?);
-    let x5 = Value::Text(third.x5.copy(alloc)?);
-    Ok(Notes::new(vec![in alloc;
+    let notes = vec![in alloc;
         (Slot::Ra, Value::Nonce(*ra)),
         (Slot::Rb, Value::Nonce(first.rb)),
-        (Slot::X1, x1),
-        (Slot::X2, x2),
-        (Slot::X3, x3),
-        (Slot::X4, x4),
-        (Slot::X5, x5),
-    ]?))
+    ]?;
+    let notes = noted(alloc, notes, Slot::X1, &first.x1)?;
+    let notes = noted(alloc, notes, Slot::X2, &own.x2)?;
+    let notes = noted(alloc, notes, Slot::X3, &own.x3)?;
+    let notes = noted(alloc, notes, Slot::X4, &third.x4)?;
+    let notes = noted(alloc, notes, Slot::X5, &third.x5)?;
+    Ok(Notes::new(notes))
 }
 
 impl RoleState for C4A {
@@ -359,34 +405,9 @@ impl RoleState for C4A {
 
     fn notes(&self, alloc: Global) -> Result<Notes, OutOfMemory> {
         match self {
-            C4A::Start { own } => {
-                let x2 = Value::Text(own.x2.copy(alloc)?);
-                let x3 = Value::Text(own.x3.copy(alloc)?);
-                Ok(Notes::new(vec![in alloc; (Slot::X2, x2), (Slot::X3, x3)]?))
-            }
-            C4A::Heard { own, first } => {
-                let x1 = Value::Text(first.x1.copy(alloc)?);
-                let x2 = Value::Text(own.x2.copy(alloc)?);
-                let x3 = Value::Text(own.x3.copy(alloc)?);
-                Ok(Notes::new(vec![in alloc;
-                    (Slot::Rb, Value::Nonce(first.rb)),
-                    (Slot::X1, x1),
-                    (Slot::X2, x2),
-                    (Slot::X3, x3),
-                ]?))
-            }
-            C4A::Asked { own, first, ra } => {
-                let x1 = Value::Text(first.x1.copy(alloc)?);
-                let x2 = Value::Text(own.x2.copy(alloc)?);
-                let x3 = Value::Text(own.x3.copy(alloc)?);
-                Ok(Notes::new(vec![in alloc;
-                    (Slot::Ra, Value::Nonce(*ra)),
-                    (Slot::Rb, Value::Nonce(first.rb)),
-                    (Slot::X1, x1),
-                    (Slot::X2, x2),
-                    (Slot::X3, x3),
-                ]?))
-            }
+            C4A::Start { own } => start_notes(alloc, own),
+            C4A::Heard { own, first } => heard_notes(alloc, own, first),
+            C4A::Asked { own, first, ra } => asked_notes(alloc, own, first, ra),
             C4A::Done {
                 own,
                 first,
@@ -444,20 +465,16 @@ impl RoleState for C4A {
                 })
             }
             C4A::Asked { own, first, ra } => {
+                let kept = own.copy(alloc)?;
+                let heard = first.copy(alloc)?;
                 let (third, opening) = take_third(alloc, sealer, ring, hook, own, first, ra, term)?;
-                let opened = one_opening(alloc, opening)?;
-                let own = own.copy(alloc)?;
-                let first = first.copy(alloc)?;
-                Ok(Taken {
-                    after: C4A::Done {
-                        own,
-                        first,
-                        ra: *ra,
-                        third,
-                    },
-                    opened,
-                    got: Vec::new(alloc),
-                })
+                let after = C4A::Done {
+                    own: kept,
+                    first: heard,
+                    ra: *ra,
+                    third,
+                };
+                taken_with(alloc, after, opening)
             }
             _ => Err(Refusal::WrongPass),
         }
@@ -475,6 +492,11 @@ impl RoleState for C4A {
             return Err(Refusal::WrongPass);
         };
         let ra = draw_nonce(draws)?;
+        let after = C4A::Asked {
+            own: own.copy(alloc)?,
+            first: first.copy(alloc)?,
+            ra,
+        };
         let body = body_of(
             alloc,
             Tag([2, 4, 2, 1]),
@@ -482,16 +504,16 @@ impl RoleState for C4A {
             &[SlotValue::Nonce(ra), SlotValue::Nonce(first.rb)],
             &own.x2,
         )?;
-        let item = check_item(alloc, sealer, key_between(ring, own.a, own.b), body)?;
-        let sealed = one_opening(alloc, item)?;
-        let shown = second_shown(alloc, own, &ra)?;
-        let message = message_of(alloc, shown, sealed.as_slice())?;
-        let own = own.copy(alloc)?;
-        let first = first.copy(alloc)?;
-        Ok(Reply {
-            after: C4A::Asked { own, first, ra },
-            message,
-            sealed,
-        })
+        let said = say_checked(
+            alloc,
+            sealer,
+            key_between(ring, own.a, own.b),
+            body,
+            Tag([2, 4, 2, 0]),
+            Some(SlotValue::Nonce(ra)),
+            &own.x2,
+            &own.x3,
+        )?;
+        reply_with(alloc, after, said)
     }
 }

@@ -1,19 +1,21 @@
 ghost use Rattle.std.specs.Prelude.{◌≡◌, ◌≢◌, ◌↔◌, ◌∷◌, [], IsTrue, Ok, Err, IfOk, IfErr, true};
-ghost use Rattle.mech_rows.specs.Notes.{are_of_kinds, terms_of};
-ghost use Rattle.mech_rows.specs.Replies.{in_order};
-ghost use Rattle.mech_rows.specs.Rings.{keys_in};
-ghost use Rattle.mech_rows.specs.Openings.{has_parts};
-ghost use Rattle.mech_rows.specs.Verdict.{verdict};
-ghost use Rattle.mech_rows.specs.declared.refusal.Refusal.TheVariants.{Memory};
-ghost use Rattle.text_hooks.specs.Rules.{allowed};
-ghost use Rattle.mech_rows.specs.Runs.{bytes_or_empty};
 ghost use Rattle.tagged_codec.specs.Grammar.{IsInLimits};
 ghost use Rattle.term_values.specs.Trees.{tuple, trees, tag, nonce, text};
 ghost use Rattle.term_values.specs.declared.small.Key.TheVariants.{One};
-ghost use Rattle.text_hooks.specs.Parts.{body_of, IsMadeItem};
-ghost use Rattle.text_hooks.specs.declared.making.SlotValue.TheVariants.{Nonce as a_nonce};
+ghost use Rattle.mech_rows.specs.declared.kinds.Clear.TheVariants.{Slot as Shown};
+ghost use Rattle.mech_rows.specs.declared.kinds.Slot.TheVariants.{Ra, X2, X3};
+ghost use Rattle.mech_rows.specs.Notes.{are_of_kinds, terms_of};
+ghost use Rattle.mech_rows.specs.Replies.{in_order};
+ghost use Rattle.mech_rows.specs.Rings.{keys_in};
+ghost use Rattle.mech_rows.specs.Runs.{bytes_or_empty};
+ghost use Rattle.mech_rows.specs.Openings.{has_parts};
+ghost use Rattle.mech_rows.specs.Verdict.{verdict, message_items, at};
+ghost use Rattle.mech_rows.specs.declared.refusal.Refusal.TheVariants.{Memory};
+ghost use Rattle.text_hooks.specs.Parts.{body_of};
+ghost use Rattle.text_hooks.specs.Rules.{allowed};
+ghost use Rattle.text_hooks.specs.declared.making.SlotValue.TheVariants.{Nonce as NonceValue};
 ghost use Rattle.roles_9798_4.specs.C4B.{state_of, head, is_c4b};
-ghost use Rattle.roles_9798_4.specs.declared.c4b.C4B.TheVariants.{Asked, Heard};
+ghost use Rattle.roles_9798_4.specs.declared.c4b.C4B.TheVariants.{Start, Asked, Heard};
 
 use mech_rows::{
     Clear, Mech, Notes, Opening, Refusal, Ring, Role, RunHead, Slot, Stated, Texts, Value,
@@ -23,9 +25,9 @@ use seal_trait::Sealer;
 use std::alloc::Global;
 use term_values::{Name, Nonce, OutOfMemory, Stamp, Tag, Term, Text};
 use text_hooks::{
-    Hook, Reply, RoleState, SlotValue, Taken, body_of, check_item, draw_nonce, item_at, judge_text,
-    key_between, message_of, nonce_at, nonce_term, one_opening, own_text, read_message, tag_term,
-    test_item, text_at, text_term,
+    Hook, Reply, RoleState, Said, SlotValue, Taken, body_of, challenge, draw_nonce, item_at,
+    key_between, nonce_at, noted, own_text, read_in, read_message, reply_with, say_checked,
+    take_text, taken_with, test_item, text_at,
 };
 
 /// The parties, and the texts that B sends.
@@ -154,42 +156,49 @@ fn take_second<S: Sealer>(
     )?;
     let key = key_between(ring, own.a, own.b);
     let opening = test_item(alloc, sealer, key, body, item_at(items, 4), 1)?;
-    judge_text(hook, Mech::C4, Slot::X2, x2)?;
-    judge_text(hook, Mech::C4, Slot::X3, x3)?;
-    let second = Second {
-        ra,
-        x2: x2.copy(alloc)?,
-        x3: x3.copy(alloc)?,
-    };
-    Ok((second, opening))
+    let second = second_of::<S>(alloc, ring, hook, own, rb, term, items, &ra, x2, x3);
+    read_in(second, opening)
 }
 
-/// The first message.
-fn first_message(alloc: Global, own: &Own, rb: &Nonce) -> Result<Term, Refusal>
-    ensures term { IfOk result (λ m. m ≡ tuple (trees (tag (2 ∷ 4 ∷ 1 ∷ 0 ∷ []) ∷ nonce rb.now ∷ text own.now.x1 ∷ []))) }
-    ensures limits { IfOk result IsInLimits }
-    ensures memory { IfErr result (λ e. e ≡ Memory) }
+/// What the second message shows, whose items these are, and whose check holds.
+fn second_of<S: Sealer>(
+    alloc: Global,
+    ring: &Ring,
+    hook: &Hook,
+    own: &Own,
+    rb: &Nonce,
+    term: &Term,
+    items: &[Term],
+    ra: &Nonce,
+    x2: &Text,
+    x3: &Text,
+) -> Result<Second, Refusal>
+    requires items { message_items (2 ∷ 4 ∷ 2 ∷ 0 ∷ []) own.now.b (Shown Ra ∷ Shown X2 ∷ Shown X3 ∷ []) (true ∷ []) term.now ≡ Ok items.now }
+    requires ra { at items.now 1 ≡ nonce ra.now }
+    requires x2 { at items.now 2 ≡ text x2.now }
+    requires x3 { at items.now 3 ≡ text x3.now }
+    requires checked { S.checks (One (bytes_or_empty (keys_in ring.now own.now.a own.now.b))) (body_of (2 ∷ 4 ∷ 2 ∷ 1 ∷ []) (own.now.a ∷ own.now.b ∷ []) (NonceValue ra.now ∷ NonceValue rb.now ∷ []) x2.now) (at items.now 4) ≡ true }
+    ensures fit { IfOk result (λ s. verdict S.opens S.checks (keys_in ring.now) (allowed hook.now.rules.items) (state_of (Asked own.now rb.now)) term.now ≡ Ok (record { notes = (state_of (Heard own.now rb.now s)).notes; opened = record { key = One (bytes_or_empty (keys_in ring.now own.now.a own.now.b)); item = at items.now 4; body = body_of (2 ∷ 4 ∷ 2 ∷ 1 ∷ []) (own.now.a ∷ own.now.b ∷ []) (NonceValue ra.now ∷ NonceValue rb.now ∷ []) x2.now } ∷ []; got = [] })) }
+    ensures refused { IfErr result (λ e. e ≢ Memory → verdict S.opens S.checks (keys_in ring.now) (allowed hook.now.rules.items) (state_of (Asked own.now rb.now)) term.now ≡ Err e) }
 {
-    let shown = vec![in alloc;
-        tag_term(Tag([2, 4, 1, 0])),
-        nonce_term(rb),
-        text_term(alloc, &own.x1)?,
-    ]?;
-    message_of(alloc, shown, &[])
+    let x2 = take_text(alloc, hook, Mech::C4, Slot::X2, x2)?;
+    let x3 = take_text(alloc, hook, Mech::C4, Slot::X3, x3)?;
+    Ok(Second { ra: *ra, x2, x3 })
 }
 
-/// The check of the third message.
-fn third_item<S: Sealer>(
+/// The third message, with its check.
+fn third_message<S: Sealer>(
     alloc: Global,
     sealer: &S,
     ring: &Ring,
     own: &Own,
     rb: &Nonce,
     ra: &Nonce,
-) -> Result<Opening, Refusal>
+) -> Result<Said, Refusal>
     requires parts { has_parts ring.now (head own.now) ≡ true }
-    ensures made_of { IfOk result (λ o. (S.checks o.key o.body o.item ≡ true) × (o.key ≡ One (bytes_or_empty (keys_in ring.now own.now.a own.now.b))) × (o.body ≡ body_of (2 ∷ 4 ∷ 3 ∷ 1 ∷ []) (own.now.a ∷ own.now.b ∷ []) (a_nonce rb.now ∷ a_nonce ra.now ∷ []) own.now.x4)) }
-    ensures made { IfOk result (λ o. IsMadeItem o.item) }
+    ensures made_of { IfOk result (λ s. (S.checks s.item.key s.item.body s.item.item ≡ true) × (s.item.key ≡ One (bytes_or_empty (keys_in ring.now own.now.a own.now.b))) × (s.item.body ≡ body_of (2 ∷ 4 ∷ 3 ∷ 1 ∷ []) (own.now.a ∷ own.now.b ∷ []) (NonceValue rb.now ∷ NonceValue ra.now ∷ []) own.now.x4)) }
+    ensures message { IfOk result (λ s. s.message ≡ tuple (trees (tag (2 ∷ 4 ∷ 3 ∷ 0 ∷ []) ∷ text own.now.x4 ∷ text own.now.x5 ∷ s.item.item ∷ []))) }
+    ensures limits { IfOk result (λ s. IsInLimits s.message) }
     ensures memory { IfErr result (λ e. e ≡ Memory) }
 {
     let body = body_of(
@@ -199,7 +208,40 @@ fn third_item<S: Sealer>(
         &[SlotValue::Nonce(*rb), SlotValue::Nonce(*ra)],
         &own.x4,
     )?;
-    check_item(alloc, sealer, key_between(ring, own.a, own.b), body)
+    let key = key_between(ring, own.a, own.b);
+    say_checked(
+        alloc,
+        sealer,
+        key,
+        body,
+        Tag([2, 4, 3, 0]),
+        None,
+        &own.x4,
+        &own.x5,
+    )
+}
+
+/// The notes of a run that begins.
+fn start_notes(alloc: Global, own: &Own) -> Result<Notes, OutOfMemory>
+    ensures notes { IfOk result (λ ns. terms_of ns ≡ in_order (state_of (Start own.now)).notes) }
+    ensures kinds { IfOk result (λ ns. are_of_kinds ns ≡ true) }
+{
+    let notes = noted(alloc, Vec::new(alloc), Slot::X1, &own.x1)?;
+    let notes = noted(alloc, notes, Slot::X4, &own.x4)?;
+    let notes = noted(alloc, notes, Slot::X5, &own.x5)?;
+    Ok(Notes::new(notes))
+}
+
+/// The notes of a run that has sent the first message.
+fn asked_notes(alloc: Global, own: &Own, rb: &Nonce) -> Result<Notes, OutOfMemory>
+    ensures notes { IfOk result (λ ns. terms_of ns ≡ in_order (state_of (Asked own.now rb.now)).notes) }
+    ensures kinds { IfOk result (λ ns. are_of_kinds ns ≡ true) }
+{
+    let notes = vec![in alloc; (Slot::Rb, Value::Nonce(*rb))]?;
+    let notes = noted(alloc, notes, Slot::X1, &own.x1)?;
+    let notes = noted(alloc, notes, Slot::X4, &own.x4)?;
+    let notes = noted(alloc, notes, Slot::X5, &own.x5)?;
+    Ok(Notes::new(notes))
 }
 
 /// The notes of a run that has heard the second message.
@@ -207,20 +249,16 @@ fn heard_notes(alloc: Global, own: &Own, rb: &Nonce, second: &Second) -> Result<
     ensures notes { IfOk result (λ ns. terms_of ns ≡ in_order (state_of (Heard own.now rb.now second.now)).notes) }
     ensures kinds { IfOk result (λ ns. are_of_kinds ns ≡ true) }
 {
-    let x1 = Value::Text(own.x1.copy(alloc)?);
-    let x2 = Value::Text(second.x2.copy(alloc)?);
-    let x3 = Value::Text(second.x3.copy(alloc)?);
-    let x4 = Value::Text(own.x4.copy(alloc)?);
-    let x5 = Value::Text(own.x5.copy(alloc)?);
-    Ok(Notes::new(vec![in alloc;
+    let notes = vec![in alloc;
         (Slot::Ra, Value::Nonce(second.ra)),
         (Slot::Rb, Value::Nonce(*rb)),
-        (Slot::X1, x1),
-        (Slot::X2, x2),
-        (Slot::X3, x3),
-        (Slot::X4, x4),
-        (Slot::X5, x5),
-    ]?))
+    ]?;
+    let notes = noted(alloc, notes, Slot::X1, &own.x1)?;
+    let notes = noted(alloc, notes, Slot::X2, &second.x2)?;
+    let notes = noted(alloc, notes, Slot::X3, &second.x3)?;
+    let notes = noted(alloc, notes, Slot::X4, &own.x4)?;
+    let notes = noted(alloc, notes, Slot::X5, &own.x5)?;
+    Ok(Notes::new(notes))
 }
 
 impl RoleState for C4B {
@@ -315,23 +353,8 @@ impl RoleState for C4B {
 
     fn notes(&self, alloc: Global) -> Result<Notes, OutOfMemory> {
         match self {
-            C4B::Start { own } => {
-                let x1 = Value::Text(own.x1.copy(alloc)?);
-                let x4 = Value::Text(own.x4.copy(alloc)?);
-                let x5 = Value::Text(own.x5.copy(alloc)?);
-                Ok(Notes::new(vec![in alloc; (Slot::X1, x1), (Slot::X4, x4), (Slot::X5, x5)]?))
-            }
-            C4B::Asked { own, rb } => {
-                let x1 = Value::Text(own.x1.copy(alloc)?);
-                let x4 = Value::Text(own.x4.copy(alloc)?);
-                let x5 = Value::Text(own.x5.copy(alloc)?);
-                Ok(Notes::new(vec![in alloc;
-                    (Slot::Rb, Value::Nonce(*rb)),
-                    (Slot::X1, x1),
-                    (Slot::X4, x4),
-                    (Slot::X5, x5),
-                ]?))
-            }
+            C4B::Start { own } => start_notes(alloc, own),
+            C4B::Asked { own, rb } => asked_notes(alloc, own, rb),
             C4B::Heard { own, rb, second } => heard_notes(alloc, own, rb, second),
             C4B::Done { own, rb, second } => heard_notes(alloc, own, rb, second),
         }
@@ -377,18 +400,14 @@ impl RoleState for C4B {
         let C4B::Asked { own, rb } = self else {
             return Err(Refusal::WrongPass);
         };
+        let kept = own.copy(alloc)?;
         let (second, opening) = take_second(alloc, sealer, ring, hook, own, rb, term)?;
-        let opened = one_opening(alloc, opening)?;
-        let own = own.copy(alloc)?;
-        Ok(Taken {
-            after: C4B::Heard {
-                own,
-                rb: *rb,
-                second,
-            },
-            opened,
-            got: Vec::new(alloc),
-        })
+        let after = C4B::Heard {
+            own: kept,
+            rb: *rb,
+            second,
+        };
+        taken_with(alloc, after, opening)
     }
 
     fn say<S: Sealer, D: Draws>(
@@ -402,8 +421,8 @@ impl RoleState for C4B {
         match self {
             C4B::Start { own } => {
                 let rb = draw_nonce(draws)?;
-                let message = first_message(alloc, own, &rb)?;
                 let own = own.copy(alloc)?;
+                let message = challenge(alloc, Tag([2, 4, 1, 0]), &rb, &own.x1)?;
                 Ok(Reply {
                     after: C4B::Asked { own, rb },
                     message,
@@ -411,25 +430,13 @@ impl RoleState for C4B {
                 })
             }
             C4B::Heard { own, rb, second } => {
-                let item = third_item(alloc, sealer, ring, own, rb, &second.ra)?;
-                let sealed = one_opening(alloc, item)?;
-                let shown = vec![in alloc;
-                    tag_term(Tag([2, 4, 3, 0])),
-                    text_term(alloc, &own.x4)?,
-                    text_term(alloc, &own.x5)?,
-                ]?;
-                let message = message_of(alloc, shown, sealed.as_slice())?;
-                let own = own.copy(alloc)?;
-                let second = second.copy(alloc)?;
-                Ok(Reply {
-                    after: C4B::Done {
-                        own,
-                        rb: *rb,
-                        second,
-                    },
-                    message,
-                    sealed,
-                })
+                let after = C4B::Done {
+                    own: own.copy(alloc)?,
+                    rb: *rb,
+                    second: second.copy(alloc)?,
+                };
+                let said = third_message(alloc, sealer, ring, own, rb, &second.ra)?;
+                reply_with(alloc, after, said)
             }
             _ => Err(Refusal::WrongPass),
         }
