@@ -8,9 +8,9 @@ ghost use Rattle.text_hooks.specs.Drawn.{MovedOn, NoncesAre};
 
 use crate::making::{SlotValue, message_of, nonce_term, tag_term, text_term, tuple_of, value_term};
 use crate::openings::one_opening;
-use crate::role_state::{Reply, RoleState};
+use crate::role_state::Reply;
 use crate::sealing::{check_item, seal_item};
-use mech_rows::{Opening, Refusal};
+use mech_rows::{Opening, Refusal, Stated};
 use outside::Draws;
 use seal_trait::Sealer;
 use std::alloc::Global;
@@ -141,7 +141,7 @@ pub fn challenge(alloc: Global, head: Tag, fresh: &Nonce, clear: &Text) -> Resul
 /// # Errors
 ///
 /// Want of memory alone.
-pub fn reply_with<T: RoleState>(alloc: Global, after: T, said: Said) -> Result<Reply<T>, Refusal>
+pub fn reply_with<T: Stated>(alloc: Global, after: T, said: Said) -> Result<Reply<T>, Refusal>
     ensures after { IfOk result (λ r. T.state_of r.after ≡ T.state_of after) }
     ensures message { IfOk result (λ r. r.message ≡ said.message) }
     ensures sealed { IfOk result (λ r. r.sealed.items ≡ said.item ∷ []) }

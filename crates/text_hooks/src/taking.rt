@@ -2,8 +2,8 @@ ghost use Rattle.std.specs.Prelude.{◌≡◌, ◌∷◌, [], Ok, Err, IfOk, IfE
 ghost use Rattle.mech_rows.specs.declared.refusal.Refusal.TheVariants.{Memory};
 
 use crate::openings::{one_opening, one_stamp};
-use crate::role_state::{RoleState, Taken};
-use mech_rows::{Got, Opening, Refusal};
+use crate::role_state::Taken;
+use mech_rows::{Got, Opening, Refusal, Stated};
 use std::alloc::Global;
 
 /// What was read of an opened item, with that item. Takes no memory.
@@ -26,11 +26,7 @@ pub fn read_in<V: Drop>(read: Result<V, Refusal>, opening: Opening) -> Result<(V
 /// # Errors
 ///
 /// Want of memory alone.
-pub fn taken_with<T: RoleState>(
-    alloc: Global,
-    after: T,
-    opening: Opening,
-) -> Result<Taken<T>, Refusal>
+pub fn taken_with<T: Stated>(alloc: Global, after: T, opening: Opening) -> Result<Taken<T>, Refusal>
     ensures after { IfOk result (λ t. T.state_of t.after ≡ T.state_of after) }
     ensures opened { IfOk result (λ t. t.opened.items ≡ opening ∷ []) }
     ensures got { IfOk result (λ t. t.got.items ≡ []) }
@@ -49,7 +45,7 @@ pub fn taken_with<T: RoleState>(
 /// # Errors
 ///
 /// Want of memory alone.
-pub fn judged_with<T: RoleState>(
+pub fn judged_with<T: Stated>(
     alloc: Global,
     after: T,
     opening: Opening,
