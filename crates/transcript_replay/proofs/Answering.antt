@@ -12,7 +12,7 @@ use Rattle.mech_rows.specs.Openings.{Texts, opened_state}
 use Rattle.mech_rows.specs.Rows.{Cover, Pass, row_of, tag_of}
 use Rattle.mech_rows.specs.declared.outcome.Outcome.{Outcome}
 use Rattle.mech_rows.specs.Runs.{Got, Keys, Notes, Opening, Run, after_taking, clear_item, made, next_act, nth, outcome_of, passed}
-use Rattle.mech_rows.specs.Steps.{IsMessage, IsStep, ItemBy, ItemsAre, Replies, Sends, Takes, openings, symbolic}
+use Rattle.mech_rows.specs.Steps.{IsStep, ItemBy, ItemsAre, Replies, Sends, Takes, openings, symbolic}
 use Rattle.mech_rows.specs.Verdict.{Noted, State, Taken, run_of}
 use Rattle.agreement_laws.specs.Traces.{RunId}
 use Rattle.node_desk.specs.Deliveries.{after_message, open_in, spent_refusal}
@@ -21,9 +21,9 @@ use Rattle.node_desk.specs.Helds.{Held}
 use Rattle.world_run.specs.declared.given.Given.{Given}
 use Rattle.world_run.specs.declared.opened.Opened.{Opened}
 use Rattle.world_run.specs.Clocks.{Raises, clock_in}
-use Rattle.world_run.specs.Gives.{Drops, Gives, IsDropped, IsGiveRefused, IsGiven, IsJudged, IsRefusedBy, stamps_refusal_in, verdict_in}
+use Rattle.world_run.specs.Gives.{Drops, Gives, IsGiveRefused, IsGiven, IsJudged, IsRefusedBy, stamps_refusal_in, verdict_in}
 use Rattle.world_run.specs.Opens.{IsOpenRefused, IsOpened, Opens, Speaks, Waits, begin_refusal, enlisted, id_of, open_refusal}
-use Rattle.world_run.specs.Turns.{SaysNext, desk_in, did, keys_at, made_by, next_message, notes_after, stamp_due, stepped}
+use Rattle.world_run.specs.Turns.{SaysNext, desk_in, did, keys_at, made_by, next_message, notes_after, stepped}
 use Rattle.world_run.specs.Views.{WorldView, held_in, is_over, number_refusal, run_in}
 use Rattle.transcript_replay.proofs.Once.{AnswerOnce}
 

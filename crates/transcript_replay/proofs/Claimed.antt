@@ -1,5 +1,5 @@
 -- A run shows a claim exactly where it has one, as the theory says it.
-use Rattle.std.proofs.Common.{◌≡◌, ◌≤◌, ℕ, zero, suc, Bool, true, false, not, ◌&&◌, ◌||◌, List, [], ◌∷◌, ◌⊎◌, inl, inr, take, length, Option, Some, None, if◌then◌else◌, refl, sym, ap, subst, ◌∙◌, arith}
+use Rattle.std.proofs.Common.{◌≡◌, ℕ, Bool, true, false, not, ◌&&◌, ◌||◌, List, [], ◌∷◌, ◌⊎◌, inl, inr, Option, Some, None, if◌then◌else◌, refl, sym, ap, subst, ◌∙◌}
 use Rattle.std.specs.Prelude.{is_some}
 use Rattle.std.specs.List.{list_any}
 use Rattle.term_values.specs.Trees.{Among}
@@ -16,8 +16,8 @@ use Rattle.agreement_laws.specs.Traces.{RunId}
 use Rattle.agreement_laws.specs.Worlds.{trace}
 use Rattle.world_run.specs.Claims.{Claims, Tells}
 use Rattle.world_run.specs.Views.{WorldView, entries, revealed_names, run_in, shown_of, told_of}
-use Rattle.transcript_replay.specs.Completions.{claim_of, has_claim, is_pair_of, is_revealed}
-use Rattle.transcript_replay.specs.Cuts.{lines_of}
+use Rattle.transcript_replay.specs.Completions.{agreeing_with, done_text, has_claim, is_pair_of, is_revealed}
+use Rattle.transcript_replay.specs.Printed.{done_line}
 use Rattle.transcript_replay.specs.Runs.{IsWorldAfter}
 use Rattle.transcript_replay.proofs.Output.{partner_after}
 
@@ -102,9 +102,15 @@ shown_is_claim w c done e =
     let s = both_hold (agreed_of c.head.mech c.head.role) (is_revealed (revealed_names w.config.pairs) c.head) e in
     (s.0, record { done = done; agreed = s.1; unrevealed = unrevealed_is (name_of c.head) w.config.pairs (pairs_of c.head.mech) s.2 })
 
+pub none_is_printed : (w : WorldView) (c : Happened) → c.done ≡ true → has_claim (told_of w) c.head ≡ false → done_text (told_of w) (Some (shown_of c)) ≡ done_line c.run c.head None
+none_is_printed w c done e = rw (done, e) refl
+
+printed_line : (w : WorldView) (c : Happened) (n : ℕ) → c.done ≡ true → has_claim (told_of w) c.head ≡ true → agreeing_with (told_of w) (shown_of c) ≡ Some n → done_text (told_of w) (Some (shown_of c)) ≡ done_line c.run c.head (Some (Some n))
+printed_line w c n done e p = rw (done, e, p) refl
+
 pub printed_partner : (bytes : List ℕ) (k : ℕ) (w : WorldView) (h : HistoryOf) (c : Happened) → IsWorldAfter bytes k w → Tells h w → Among c h.happened → c.done ≡ true → has_claim (told_of w) c.head ≡ true
-    → (n : ℕ) × (claim_of (told_of w) (shown_of c) ≡ Some (Some n)) × (slots : List Slot) × (agreed_of c.head.mech c.head.role ≡ Some slots) × (id : RunId) × (run_in w.runs n ≡ Some id) × AgreesAt (trace (entries w.acts)) (peer_of c.head.role) slots (run_of c) id
+    → (n : ℕ) × (done_text (told_of w) (Some (shown_of c)) ≡ done_line c.run c.head (Some (Some n))) × (slots : List Slot) × (agreed_of c.head.mech c.head.role ≡ Some slots) × (id : RunId) × (run_in w.runs n ≡ Some id) × AgreesAt (trace (entries w.acts)) (peer_of c.head.role) slots (run_of c) id
 printed_partner bytes k w h c after tells among done e =
     let s = shown_is_claim w c done e in
     let p = partner_after bytes k w h c s.0 after tells among s.1 in
-    (p.0, rw (e, p.1) refl, s.0, s.1.agreed, p.2, p.3, p.4)
+    (p.0, printed_line w c p.0 done e p.1, s.0, s.1.agreed, p.2, p.3, p.4)

@@ -1,23 +1,22 @@
 -- A text is a line, a line that names nothing, or no line.
-use Rattle.std.proofs.Common.{◌≡◌, ◌⊎◌, inl, inr, ℕ, ◌^◌, ◌≤◌, ◌<◌, Bool, true, false, List, [], ◌∷◌, length, Option, Some, None, nat_le, ltb, eqb, refl, sym, ap, subst, ◌∙◌, arith}
-use Rattle.std.specs.Prelude.{codes, IsTrue}
+use Rattle.std.proofs.Common.{◌≡◌, ◌⊎◌, inl, inr, ℕ, ◌^◌, ◌≤◌, ◌<◌, Bool, true, false, List, [], ◌∷◌, length, Option, Some, None, nat_le, ltb, eqb, refl, ap, arith}
+use Rattle.std.specs.Prelude.{codes}
 use Rattle.std.specs.Str.{bytes_eq}
 use Rattle.std.proofs.lemmas.Bool.{leb-true, leb-false, eqb-true, eqb-false, ltb-true, ltb-false}
-use Rattle.term_values.specs.Trees.{Bytes, Tree, Trees, name, stamp, nonce, part, text, tag, blob, tuple, seal, check, none, item, count_of, depth_of}
+use Rattle.term_values.specs.Trees.{Tree, Trees, name, stamp, nonce, part, text, tag, blob, tuple, seal, check, none, item, count_of, depth_of}
 use Rattle.term_values.specs.declared.small.Key.{Key}
 use Rattle.term_values.specs.declared.small.Key.TheVariants.{One, Two}
 use Rattle.term_values.specs.declared.small.Stamp.{Stamp}
 use Rattle.term_values.specs.declared.small.Stamp.TheVariants.{Time, Seq}
 use Rattle.tagged_codec.specs.Grammar.{AllFit, Fits, IsInLimits, IsKey, IsStamp, spelling}
 use Rattle.script_text.specs.LineReading.{IsGiveWords, number_in, plain_words}
-use Rattle.script_text.specs.Lines.{IsLine, WrittenLine, give, is_line_named, is_silent, said, silent, words_of}
+use Rattle.script_text.specs.Lines.{give, is_silent, said, silent, words_of}
 use Rattle.script_text.specs.declared.line.Line.{Line}
 use Rattle.script_text.specs.Notation.{IsReading, Written, is_named}
 use Rattle.script_text.specs.Reading.{State, limits, term_at}
 use Rattle.script_text.proofs.Again.{at}
 use Rattle.script_text.proofs.LineTexts.{given_line, no_given, no_line, plain_said}
-use Rattle.script_text.proofs.Readings.{Found, found_reading, no_reading, not_small, not_whole, start}
-use Rattle.script_text.proofs.Words.{some_is}
+use Rattle.script_text.proofs.Readings.{found_reading, no_reading, not_small, not_whole, start}
 use Rattle.script_text.proofs.Spelled.{same_text}
 use Rattle.transcript_replay.specs.Said.{IsNoLine, NamesNothing, Says}
 

@@ -1,5 +1,5 @@
 -- Each call of a genuine world has an answer.
-use Rattle.std.proofs.Common.{◌≡◌, ◌≢◌, ◌⊎◌, ◌==◌, ◌<◌, ◌≤◌, ◌+◌, ◌*◌, ◌^◌, ℕ, zero, suc, Bool, true, false, ◌&&◌, ◌||◌, if◌then◌else◌, List, [], ◌∷◌, ◌++◌, length, nat_le, Option, Some, None, Result, Ok, Err, refl, sym, ap, subst, ◌∙◌, inl, inr, arith, eqb-true, eq-eqb}
+use Rattle.std.proofs.Common.{◌≡◌, ◌⊎◌, ◌==◌, ◌<◌, ℕ, suc, Bool, true, false, ◌&&◌, if◌then◌else◌, List, [], ◌∷◌, ◌++◌, length, nat_le, Option, Some, None, Result, Ok, Err, refl, sym, ap, subst, ◌∙◌, inl, inr, eqb-true, eq-eqb}
 use Rattle.std.specs.Prelude.{is_some, option_map}
 use Rattle.std.specs.List.{list_any}
 use Rattle.std.proofs.lemmas.Bool.{leb-true, le-leb}
@@ -16,7 +16,7 @@ use Rattle.attacker_model.proofs.Decided.{decided}
 use Rattle.mech_rows.specs.declared.kinds.Mech.{Mech}
 use Rattle.mech_rows.specs.declared.kinds.Slot.{Slot}
 use Rattle.mech_rows.specs.declared.refusal.Refusal.{Refusal}
-use Rattle.mech_rows.specs.declared.refusal.Refusal.TheVariants.{EndedRun, NotDerivable, StampsSpent, Unborn, UnknownParty, UnknownRun}
+use Rattle.mech_rows.specs.declared.refusal.Refusal.TheVariants.{NotDerivable, StampsSpent, Unborn, UnknownParty, UnknownRun}
 use Rattle.mech_rows.specs.Facts.{same_role}
 use Rattle.mech_rows.specs.Found.{found}
 use Rattle.mech_rows.specs.Heads.{Head, IsHead, me}
@@ -25,14 +25,13 @@ use Rattle.mech_rows.specs.Openings.{Texts, is_text, opened_run, opened_state, s
 use Rattle.mech_rows.specs.Replies.{needs_stamp, new_slots, said, sends, sends_first}
 use Rattle.mech_rows.specs.Rows.{Pass, is_stamp, kind_of, row_of}
 use Rattle.mech_rows.specs.Runs.{Keys, Notes, Opening, Run, Step, nth, outcome_of, reply_pass, seen_slots, sent_slots}
-use Rattle.mech_rows.specs.Steps.{symbolic}
 use Rattle.mech_rows.specs.Verdict.{State, Taken, run_of}
 use Rattle.mech_rows.proofs.RowUse.{same_role_is}
 use Rattle.mech_rows.proofs.Stepping.{answered, began, ended}
 use Rattle.mech_rows.proofs.Symbolic.{IsSymbolicStep, SymbolicReplies, SymbolicTakes}
 use Rattle.seal_symbolic.specs.Symbolic.{body_of, is_check}
 use Rattle.text_hooks.specs.Drawn.{drawn_values}
-use Rattle.agreement_laws.specs.Configs.{Config, IsLawful, keys_of, names_in}
+use Rattle.agreement_laws.specs.Configs.{Config, IsLawful, keys_of}
 use Rattle.agreement_laws.specs.Nodes.{Commit, Drop, Issue, Open, Restart}
 use Rattle.agreement_laws.specs.Traces.{RunId, current, same_id}
 use Rattle.agreement_laws.proofs.Traces.{IsTrace}
@@ -44,15 +43,13 @@ use Rattle.term_values.proofs.Lists.{among_append, and_left}
 use Rattle.node_desk.specs.declared.event.Event.TheVariants as events
 use Rattle.node_desk.specs.Deliveries.{after_message, open_in, spent_refusal}
 use Rattle.node_desk.specs.Desks.{node_at}
-use Rattle.node_desk.specs.Helds.{Held}
-use Rattle.node_desk.specs.Refusals.{run_refusal}
 use Rattle.world_run.specs.declared.given.Given.{Given}
 use Rattle.world_run.specs.declared.opened.Opened.{Opened}
 use Rattle.world_run.specs.Born.{BeginsLater, HasUnborn, HoldsLater, ItemsHoldLater, KeyHoldsLater, number_from}
 use Rattle.world_run.specs.Clocks.{Raises, clock_in, raised}
 use Rattle.world_run.specs.Gives.{Drops, Gives, IsJudged, stamps_refusal_in, verdict_in}
 use Rattle.world_run.specs.Kept.{IsGenuine}
-use Rattle.world_run.specs.Opens.{Opens, Speaks, Waits, begin_refusal, enlisted, given_up, id_of, open_refusal, opened_by}
+use Rattle.world_run.specs.Opens.{Opens, begin_refusal, enlisted, given_up, id_of, open_refusal, opened_by}
 use Rattle.world_run.specs.Turns.{SaysNext, desk_in, did, draws_from, has_name, keys_at, made_by, moment, next_message, next_stamp_of, notes_after, stamp_due, stepped}
 use Rattle.world_run.specs.Views.{entries, held_in, is_over, known_in, number_refusal, run_in, standing_refusal, WorldView}
 use Rattle.world_run.proofs.Acts.{current_is, run_shown}
@@ -61,7 +58,7 @@ use Rattle.world_run.proofs.Legal.{genuine_list, has_name_is, is_has_name}
 use Rattle.world_run.proofs.Numbers.{of_unborn, unborn_of}
 use Rattle.world_run.proofs.Sealings.{symbolic_step}
 use Rattle.transcript_replay.proofs.Decided.{OrNot}
-use Rattle.transcript_replay.proofs.Genuine.{IsFit, open_held, opened_held}
+use Rattle.transcript_replay.proofs.Genuine.{open_held, opened_held}
 use Rattle.transcript_replay.proofs.Speaking.{CanSay, after_saying, fitted_by, made_for, ready_by, says_so, then_can_say}
 
 -- ---- the texts of runs

@@ -5,7 +5,6 @@ use Rattle.std.proofs.lemmas.List.{append-nil}
 use Rattle.term_values.specs.Trees.{Among, Bytes, Tree, part}
 use Rattle.term_values.specs.declared.small.Stamp.{Stamp}
 use Rattle.term_values.proofs.Lists.{among_right}
-use Rattle.replay_store.specs.Stamps.{number_of}
 use Rattle.attacker_model.specs.Derivation.{Derivable}
 use Rattle.mech_rows.specs.declared.kinds.Mech.{Mech}
 use Rattle.mech_rows.specs.declared.kinds.Slot.{Slot}
@@ -17,9 +16,9 @@ use Rattle.mech_rows.specs.Moves.{Move, middle_of, step_of}
 use Rattle.mech_rows.specs.Openings.{Texts, opened_state}
 use Rattle.mech_rows.specs.Runs.{Got}
 use Rattle.mech_rows.specs.Steps.{symbolic}
-use Rattle.mech_rows.specs.Verdict.{State, Taken, run_of}
+use Rattle.mech_rows.specs.Verdict.{State, run_of}
 use Rattle.seal_symbolic.specs.Symbolic.{body_of, is_check}
-use Rattle.agreement_laws.specs.Configs.{Config, names_in, revealed_parts}
+use Rattle.agreement_laws.specs.Configs.{Config, revealed_parts}
 use Rattle.agreement_laws.specs.Nodes.{Log, Needs, NeedsCommit, Node, IsLegal, WasIssued, WasUsed, changed, new_node, node_after}
 use Rattle.agreement_laws.specs.Nodes as node
 use Rattle.agreement_laws.specs.Traces.{RunId}
@@ -28,7 +27,7 @@ use Rattle.agreement_laws.specs.Worlds.{ring_of, trace}
 use Rattle.agreement_laws.proofs.Conclusions.{world_sound}
 use Rattle.agreement_laws.proofs.Nodes.{log_is as node_log_is, stamps_rise}
 use Rattle.agreement_laws.proofs.Reduction.{logs_are_legal}
-use Rattle.node_desk.specs.declared.event.Event.TheVariants.{Commit, Drop, Issue, Open}
+use Rattle.node_desk.specs.declared.event.Event.TheVariants.{Commit, Issue, Open}
 use Rattle.node_desk.specs.Deliveries.{after_message, open_in}
 use Rattle.node_desk.specs.Desks.{IsUnused, node_at, node_of}
 use Rattle.node_desk.specs.Events.{log_of}
@@ -44,11 +43,11 @@ use Rattle.world_run.specs.Gives.{Drops, Gives, IsGiveRefused, IsGiven, IsJudged
 use Rattle.world_run.specs.Kept.{IsDue, IsGenuine, IsReady}
 use Rattle.world_run.specs.Opens.{IsOpenRefused, IsOpened, Opens, Speaks, Waits, enlisted, id_of, next_run, open_refusal, opened_by}
 use Rattle.world_run.specs.Turns.{SaysNext, desk_in, did, draws_for, issued_by, keys_at, made_by, moment, next_stamp_of, stamp_due, stepped, with_issue}
-use Rattle.world_run.specs.Views.{Act, act, acts_of, entries, held_in, known_in, number_refusal, run_in, sent_in, standing_refusal, WorldView}
+use Rattle.world_run.specs.Views.{Act, act, acts_of, entries, held_in, known_in, run_in, sent_in, standing_refusal, WorldView}
 use Rattle.world_run.proofs.Acts.{acts_of_own, held_other, held_own, log_is, sent_snoc}
 use Rattle.world_run.proofs.Commits.{genuine_commit}
 use Rattle.world_run.proofs.Decided.{lawful}
-use Rattle.world_run.proofs.Legal.{MayOpenIn, due_is_next, genuine_drop, genuine_issued, genuine_list, genuine_open, may_open_in, needs_issue}
+use Rattle.world_run.proofs.Legal.{due_is_next, genuine_drop, genuine_issued, genuine_list, genuine_open, may_open_in, needs_issue}
 use Rattle.world_run.proofs.Saying.{draws_few}
 use Rattle.world_run.proofs.Verdicts.{middle_noted}
 use Rattle.transcript_replay.specs.Players.{beginning}

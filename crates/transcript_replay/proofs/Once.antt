@@ -1,5 +1,5 @@
 -- There is one output, and what a script that was cut off printed is a front of it.
-use Rattle.std.proofs.Common.{◌≡◌, ◌⊎◌, inl, inr, ℕ, ◌+◌, List, [], ◌∷◌, ◌++◌, length, take, Bool, true, false, Result, Ok, Err, refl, sym, ap, ap₂, subst, ◌∙◌}
+use Rattle.std.proofs.Common.{◌≡◌, inl, inr, ℕ, ◌+◌, List, [], ◌∷◌, ◌++◌, length, take, Bool, true, false, Result, refl, sym, ap, ap₂, subst, ◌∙◌}
 use Rattle.std.proofs.Math.Seq.{take-append-add}
 use Rattle.term_values.specs.Trees.{Bytes, Tree}
 use Rattle.mech_rows.specs.declared.kinds.Mech.{Mech}
@@ -10,7 +10,6 @@ use Rattle.mech_rows.specs.Openings.{Texts}
 use Rattle.text_hooks.specs.Rules.{allowed}
 use Rattle.script_text.specs.declared.line.Line.{Line}
 use Rattle.script_text.specs.declared.line.Line.TheVariants as line
-use Rattle.script_text.specs.Lines.{WrittenLine}
 use Rattle.script_text.proofs.LineTexts.{one_line_is}
 use Rattle.world_run.specs.declared.given.Given.{Given}
 use Rattle.world_run.specs.declared.opened.Opened.{Opened}
@@ -24,7 +23,7 @@ use Rattle.transcript_replay.specs.Answered.{clock_text, drop_text, give_text, o
 use Rattle.transcript_replay.specs.Cuts.{lines_of}
 use Rattle.transcript_replay.specs.Players.{Player, fresh, started}
 use Rattle.transcript_replay.specs.Printed.{bad_line}
-use Rattle.transcript_replay.specs.Runs.{Breaks, Declares, Does, End, Front, Goes, IsBad, IsOutput, IsWorldOf, LeadsTo, LineFront, Runs, Whole, is_over}
+use Rattle.transcript_replay.specs.Runs.{Breaks, Does, Front, Goes, IsBad, IsOutput, IsWorldOf, LeadsTo, Runs, Whole, IsWorldAfter}
 use Rattle.transcript_replay.specs.Said.{IsNoLine, NamesNothing, Says, is_setting}
 use Rattle.transcript_replay.proofs.Fronts.{take_front}
 use Rattle.transcript_replay.proofs.Starting.{one_said}
@@ -188,3 +187,6 @@ module _ (once : AnswerOnce) where
 
   pub one_world : (bytes : List ℕ) (v w : WorldView) → IsWorldOf bytes v → IsWorldOf bytes w → v ≡ w
   one_world bytes v w (short, q, leads, is) (short', r, leads', is') = is ∙ ap (λ (p : Player). p.world) (leads_once fresh (lines_of bytes) q r leads leads') ∙ sym is'
+
+  pub one_after : (bytes : List ℕ) (k : ℕ) (v w : WorldView) → IsWorldAfter bytes k v → IsWorldAfter bytes k w → v ≡ w
+  one_after bytes k v w (short, q, leads, is) (short', r, leads', is') = is ∙ ap (λ (p : Player). p.world) (leads_once fresh (take k (lines_of bytes)) q r leads leads') ∙ sym is'

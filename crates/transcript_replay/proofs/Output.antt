@@ -1,15 +1,9 @@
 -- The world that an input leads to is sound, and each input has an output.
-use Rattle.std.proofs.Common.{◌≡◌, ◌⊎◌, inl, inr, ℕ, zero, suc, ◌+◌, ◌≤◌, ◌<◌, ◌||◌, nat_lt, List, [], ◌∷◌, ◌++◌, length, take, Bool, true, false, Option, Some, Result, Ok, Err, refl, sym, ap, subst, ◌∙◌, arith, rules, tests}
+use Rattle.std.proofs.Common.{◌≡◌, ◌⊎◌, inl, inr, ℕ, zero, suc, ◌+◌, ◌≤◌, ◌<◌, ◌||◌, nat_lt, List, [], ◌∷◌, ◌++◌, length, take, Bool, true, false, Some, refl, sym, ap, subst, ◌∙◌, arith}
 use Rattle.std.proofs.lemmas.Bool.{ltb-false}
-use Rattle.std.specs.Io.KnownBytes.{Appends}
-use Rattle.term_values.specs.Trees.{Among, Bytes, Tree}
-use Rattle.mech_rows.specs.declared.kinds.Mech.{Mech}
+use Rattle.term_values.specs.Trees.{Among}
 use Rattle.mech_rows.specs.declared.kinds.Slot.{Slot}
-use Rattle.mech_rows.specs.declared.refusal.Refusal.{Refusal}
 use Rattle.mech_rows.specs.Facts.{peer_of}
-use Rattle.mech_rows.specs.Heads.{Head, IsHead}
-use Rattle.mech_rows.specs.Openings.{Texts}
-use Rattle.text_hooks.specs.declared.rule.Rule.{Rule}
 use Rattle.text_hooks.specs.Rules.{allowed}
 use Rattle.agreement_laws.specs.declared.history.Happened.{Happened}
 use Rattle.agreement_laws.specs.Configs.{Config}
@@ -18,15 +12,9 @@ use Rattle.agreement_laws.specs.Partners.{run_of}
 use Rattle.agreement_laws.specs.Sound.{AgreesAt, IsSound}
 use Rattle.agreement_laws.specs.Traces.{RunId}
 use Rattle.agreement_laws.specs.Worlds.{trace}
-use Rattle.node_desk.specs.Lives.{plays_live}
 use Rattle.script_text.specs.declared.line.Line.{Line}
 use Rattle.script_text.specs.declared.line.Line.TheVariants as line
-use Rattle.world_run.specs.declared.given.Given.{Given}
-use Rattle.world_run.specs.declared.opened.Opened.{Opened}
-use Rattle.world_run.specs.Clocks.{Raises}
 use Rattle.world_run.specs.Conditions.{KeepsConditions}
-use Rattle.world_run.specs.Gives.{Drops, Gives}
-use Rattle.world_run.specs.Opens.{Opens}
 use Rattle.world_run.specs.Tested.{are_kept}
 use Rattle.world_run.specs.Views.{Told, WorldView, entries, run_in, sent_in, shown_of, told_of}
 use Rattle.world_run.specs.Claims.{Claims, Tells}
@@ -38,10 +26,10 @@ use Rattle.transcript_replay.specs.declared.reason.Reason.TheVariants as reason
 use Rattle.transcript_replay.specs.Answered.{clock_text, drop_text, give_text, open_text}
 use Rattle.transcript_replay.specs.Completions.{agreeing_with}
 use Rattle.transcript_replay.specs.Cuts.{lines_of}
-use Rattle.transcript_replay.specs.Players.{Player, beginning, fresh, nobody, set_up, started, with_own, with_pair, with_party}
+use Rattle.transcript_replay.specs.Players.{Player, fresh, nobody, set_up, started, with_own, with_pair, with_party}
 use Rattle.transcript_replay.specs.Printed.{bad_line}
-use Rattle.transcript_replay.specs.Runs.{Breaks, Does, End, Front, Goes, IsBad, IsOutput, IsWorldOf, LeadsTo, Runs, Whole, is_over, IsWorldAfter}
-use Rattle.transcript_replay.specs.Said.{IsPlayable, Says, is_setting}
+use Rattle.transcript_replay.specs.Runs.{Breaks, Does, Goes, IsBad, IsOutput, IsWorldOf, LeadsTo, Runs, Whole, is_over, IsWorldAfter}
+use Rattle.transcript_replay.specs.Said.{Says, is_setting}
 use Rattle.transcript_replay.proofs.Adding.{nobody_kept}
 use Rattle.transcript_replay.proofs.Decided.{OrNot, line_decided}
 use Rattle.transcript_replay.proofs.Deciding.{clock_some, drop_some, give_some, open_some}
@@ -178,7 +166,7 @@ some_world bytes e =
     let r = leads_some 0 fresh (lines_of bytes) (omega (arith, few)) (fit_begins 0 nobody nobody_kept) in
     (r.0.world, (e, r.0, r.1, refl))
 
--- ---- each claim of a script's world has its partner
+-- ---- each claim of a script's world has its partner, and so after each line
 
 few_taken : {X : Type 0} (k : ℕ) (xs : List X) → length (take k xs) ≤ length xs
 few_taken zero xs = omega arith
@@ -213,3 +201,17 @@ world_after_is_sound bytes k w (short, q, leads, is) =
     let fewer = few_taken k (lines_of bytes) in
     let f = leads_fit 0 fresh (take k (lines_of bytes)) q (omega (arith, few, fewer)) (fit_begins 0 nobody nobody_kept) leads in
     subst (λ (v : WorldView). IsSound v.config (trace (entries v.acts))) (sym is) (fit_sound f.0 q.world f.1)
+
+pub some_after : (bytes : List ℕ) (k : ℕ) → is_over bytes ≡ false → (w : WorldView) × IsWorldAfter bytes k w
+some_after bytes k e =
+    let few = few_lines bytes e in
+    let fewer = few_taken k (lines_of bytes) in
+    let r = leads_some 0 fresh (take k (lines_of bytes)) (omega (arith, few, fewer)) (fit_begins 0 nobody nobody_kept) in
+    (r.0.world, (e, r.0, r.1, refl))
+
+all_taken : {X : Type 0} (xs : List X) → take (length xs) xs ≡ xs
+all_taken [] = refl
+all_taken (x ∷ xs) = ap (λ (ys : List _). x ∷ ys) (all_taken xs)
+
+pub last_world : (bytes : List ℕ) (w : WorldView) → IsWorldOf bytes w → IsWorldAfter bytes (length (lines_of bytes)) w
+last_world bytes w (short, q, leads, is) = (short, q, subst (λ (ls : List (List ℕ)). LeadsTo fresh ls q) (sym (all_taken (lines_of bytes))) leads, is)

@@ -1,21 +1,20 @@
 -- The partner that a history tells is that of its runs with notes as terms.
-use Rattle.std.proofs.Common.{◌≡◌, ℕ, Bool, true, false, ◌&&◌, List, [], ◌∷◌, map, Option, Some, None, option_map, if◌then◌else◌, refl, sym, ap, ap₂, ◌∙◌}
+use Rattle.std.proofs.Common.{◌≡◌, ℕ, Bool, true, false, ◌&&◌, List, [], ◌∷◌, map, Option, Some, None, option_map, if◌then◌else◌, refl, ap₂}
 use Rattle.std.specs.Prelude.{is_some, slice_get, zero, suc}
-use Rattle.term_values.specs.Trees.{Tree}
 use Rattle.mech_rows.specs.declared.kinds.Mech.{Mech}
 use Rattle.mech_rows.specs.declared.kinds.Role.{Role}
 use Rattle.mech_rows.specs.declared.kinds.Slot.{Slot}
 use Rattle.mech_rows.specs.declared.notes.Value.{Value}
 use Rattle.mech_rows.specs.Facts.{peer_of, same_slot, same_mech, same_role}
 use Rattle.mech_rows.specs.Found.{found}
-use Rattle.mech_rows.specs.Notes.{noted, terms_of, tree_of_value}
+use Rattle.mech_rows.specs.Notes.{noted, terms_of}
 use Rattle.mech_rows.specs.Rows.{agreed_of}
 use Rattle.mech_rows.specs.Runs.{Notes}
 use Rattle.mech_rows.specs.Table.{fill, filled_agreed}
 use Rattle.agreement_laws.specs.declared.history.Happened.{Happened}
 use Rattle.agreement_laws.specs.Histories.{HistoryOf}
 use Rattle.agreement_laws.specs.Partners.{agrees as agrees_by, alike, first_where, partner_of, partner_on, same_names}
-use Rattle.world_run.specs.Views.{Shown, shown_of, told_by}
+use Rattle.world_run.specs.Views.{shown_of, told_by}
 use Rattle.transcript_replay.specs.Completions.{agreeing_on, agreeing_with, agrees, first_agreeing, numbered}
 
 found_term : (ns : List (Slot × Value)) (s : Slot) → noted ns s ≡ found (terms_of ns) s

@@ -1,5 +1,5 @@
 -- What a text says as a line, a world may be asked.
-use Rattle.std.proofs.Common.{◌≡◌, ℕ, Bool, true, false, List, refl, sym, subst, None}
+use Rattle.std.proofs.Common.{◌≡◌, ℕ, true, List, refl, sym, subst, None}
 use Rattle.term_values.specs.Trees.{Tree}
 use Rattle.mech_rows.specs.declared.kinds.Mech.{Mech}
 use Rattle.mech_rows.specs.declared.kinds.Mech.TheVariants.{E1, E2, E3, E4, E5, E6, C1, C2, C3, C4, K3, K4, K5, K6, K8, K9}

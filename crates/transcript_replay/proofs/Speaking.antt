@@ -1,10 +1,10 @@
 -- What a run says next: there is such a message, where the run has noted what its role sent and saw.
-use Rattle.std.proofs.Common.{◌≡◌, ◌≢◌, ◌⊎◌, ◌<◌, ◌+◌, ℕ, zero, suc, Bool, true, false, not, ◌&&◌, ◌||◌, if◌then◌else◌, List, [], ◌∷◌, ◌++◌, length, take, Option, Some, None, Ok, Err, nat_lt, refl, sym, ap, ap₂, subst, ◌∙◌, inl, inr, arith}
+use Rattle.std.proofs.Common.{◌≡◌, ◌⊎◌, ◌<◌, ◌+◌, ℕ, zero, suc, Bool, true, false, not, ◌&&◌, ◌||◌, if◌then◌else◌, List, [], ◌∷◌, ◌++◌, length, take, Option, Some, None, Ok, Err, nat_lt, refl, sym, ap, ap₂, subst, ◌∙◌, inl, inr, arith}
 use Rattle.std.proofs.lemmas.Bool.{ltb-false, ltb-true}
 use Rattle.mech_rows.specs.declared.refusal.Refusal.TheVariants.{WrongPass}
 use Rattle.std.specs.Prelude.{is_some}
 use Rattle.std.specs.List.{list_all, list_any}
-use Rattle.term_values.specs.Trees.{Among, Bytes, Tree, nonce, part, stamp, text, tuple}
+use Rattle.term_values.specs.Trees.{Among, Bytes, Tree}
 use Rattle.term_values.specs.declared.small.Key.{Key}
 use Rattle.term_values.specs.declared.small.Stamp.{Stamp}
 use Rattle.term_values.proofs.Lists.{all_among, among_append, and_both, and_left, and_right, any_among, some_among}
@@ -17,16 +17,16 @@ use Rattle.mech_rows.specs.declared.kinds.Slot.{Slot}
 use Rattle.mech_rows.specs.Facts.{same_role, same_slot}
 use Rattle.mech_rows.specs.Found.{found}
 use Rattle.mech_rows.specs.Heads.{Head}
-use Rattle.mech_rows.specs.Lawful.{HasActed, Receives, acted_slots, own_slots, stands_in, tested_by}
+use Rattle.mech_rows.specs.Lawful.{HasActed, acted_slots, own_slots, stands_in, tested_by}
 use Rattle.mech_rows.specs.Moves.{Fitted, Ready}
 use Rattle.mech_rows.specs.Openings.{is_text, sends_slot}
-use Rattle.mech_rows.specs.Replies.{AreMade, Says, are_noted, is_of_kind, listed, made_in, needs_stamp, new_slots, next_pass, pass_or_none, run_verdict, said, sends, slots_in, stamps_in, receives, unknown_slots}
+use Rattle.mech_rows.specs.Replies.{AreMade, Says, is_of_kind, listed, made_in, needs_stamp, new_slots, next_pass, pass_or_none, run_verdict, said, sends, slots_in, stamps_in, receives, unknown_slots}
 use Rattle.mech_rows.specs.Rows.{Cover, Pass, is_stamp, kind_of, row_of}
 use Rattle.mech_rows.specs.Runs.{HasKind, Keys, Notes, Opening, body, key_under, next_act, noted_or_empty, nth, seen_slots, sent_slots, value}
-use Rattle.mech_rows.specs.Steps.{Fits, stamp_in, symbolic_item}
+use Rattle.mech_rows.specs.Steps.{stamp_in, symbolic_item}
 use Rattle.mech_rows.specs.Verdict.{Noted, State, Taken, has_kind, run_of, verdict}
 use Rattle.mech_rows.proofs.RowUse.{nth_among, same_role_is, same_role_refl, same_slot_is, same_slot_refl}
-use Rattle.mech_rows.proofs.Sending.{SendsPass, sends_pass, unknown_is}
+use Rattle.mech_rows.proofs.Sending.{sends_pass, unknown_is}
 use Rattle.mech_rows.proofs.Stepping.{receives_pass}
 use Rattle.mech_rows.proofs.VerdictFits.{verdict_fits}
 use Rattle.seal_symbolic.specs.Symbolic.{body_of, is_check}

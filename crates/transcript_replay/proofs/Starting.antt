@@ -1,5 +1,5 @@
 -- The first event line prints the same whether or not an event line has come.
-use Rattle.std.proofs.Common.{◌≡◌, ◌⊎◌, inl, inr, ℕ, Bool, true, false, List, [], ◌∷◌, ◌++◌, ◌+◌, Option, Ok, refl, sym, ap, subst, ◌∙◌}
+use Rattle.std.proofs.Common.{◌≡◌, inl, inr, ℕ, true, false, List, [], ◌∷◌, ◌+◌, Option, Ok, sym, ap, subst, ◌∙◌}
 use Rattle.std.specs.Io.KnownBytes.{Appends}
 use Rattle.std.proofs.KnownBytes.{Appends-nil}
 use Rattle.term_values.specs.Trees.{Tree}
@@ -11,7 +11,7 @@ use Rattle.agreement_laws.specs.Configs.{Config}
 use Rattle.world_run.specs.Views.{WorldView, sent_in}
 use Rattle.transcript_replay.specs.declared.reason.Reason.{Reason}
 use Rattle.transcript_replay.specs.declared.reason.Reason.TheVariants as reason
-use Rattle.transcript_replay.specs.Ends.{HeardEnds, LineEnds}
+use Rattle.transcript_replay.specs.Ends.{HeardEnds}
 use Rattle.transcript_replay.specs.Players.{Player, beginning, fresh, nobody, set_up, started}
 use Rattle.transcript_replay.specs.Runs.{Does, End, Whole, Front, Goes, IsBad, LineFront, Runs, Stops}
 use Rattle.transcript_replay.specs.Said.{Says, is_event, is_setting}

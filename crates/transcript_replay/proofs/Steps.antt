@@ -1,5 +1,5 @@
 -- What has been written, and what whatever comes makes of it.
-use Rattle.std.proofs.Common.{◌≡◌, ◌⊎◌, inl, inr, ℕ, Bool, true, false, ◌+◌, ◌<◌, List, [], ◌∷◌, ◌++◌, length, take, Option, Result, Ok, Err, refl, sym, ap, subst, ◌∙◌, append_assoc}
+use Rattle.std.proofs.Common.{◌≡◌, ◌⊎◌, inl, inr, ℕ, Bool, true, false, ◌+◌, List, [], ◌∷◌, ◌++◌, take, Option, Ok, Err, refl, sym, subst, append_assoc}
 use Rattle.std.proofs.KnownBytes.{Appends-nil, Appends-trans}
 use Rattle.std.specs.Io.KnownBytes.{Appends}
 use Rattle.transcript_replay.specs.declared.stop.LineFault.{LineFault}
@@ -7,11 +7,10 @@ use Rattle.transcript_replay.specs.declared.stop.LineFault.TheVariants as fault
 use Rattle.transcript_replay.specs.declared.stop.Stop.{Stop}
 use Rattle.transcript_replay.specs.declared.stop.Stop.TheVariants.{Bad, Failed, Memory}
 use Rattle.transcript_replay.specs.Cuts.{lines_of}
-use Rattle.transcript_replay.specs.Ends.{FaultEnds, IsBadBy, LineEnds, StopEnds, TextEnds, end_of}
+use Rattle.transcript_replay.specs.Ends.{FaultEnds, IsBadBy, LineEnds, StopEnds, end_of}
 use Rattle.transcript_replay.specs.Players.{Player, fresh}
 use Rattle.transcript_replay.specs.Printed.{bad_line}
-use Rattle.transcript_replay.specs.Runs.{End, Whole, Front, IsBad, IsOutput, Runs, is_over}
-use Rattle.transcript_replay.specs.Told.{PutsFront}
+use Rattle.transcript_replay.specs.Runs.{End, Whole, Front, IsOutput, Runs, is_over}
 
 -- a text was put, and whatever these lines print completes it to what all lines print
 pub record SoFar (old new : Option (List ℕ)) (first : ℕ) (start : Player) (k : ℕ) (p : Player) (rest all : List (List ℕ)) : Type 0 where

@@ -2,7 +2,7 @@
 use Rattle.std.specs.Prelude.{ℕ, Bool, false, true, List, [], ◌∷◌, ◌++◌, map}
 use Rattle.term_values.specs.declared.small.StampKind.{StampKind}
 use Rattle.text_hooks.specs.declared.rule.Rule.{Rule}
-use Rattle.agreement_laws.specs.Configs.{Config, LongTerm, Party}
+use Rattle.agreement_laws.specs.Configs.{Config, Party}
 use Rattle.world_run.specs.Views.{WorldView}
 
 -- the world, in which nothing has happened before the first event line, the rules on texts, and whether an event line has come

@@ -1,5 +1,5 @@
 -- The printed lines.
-use Rattle.std.specs.Prelude.{ℕ, List, [], ◌∷◌, ◌++◌, codes, Option, Some, None}
+use Rattle.std.specs.Prelude.{ℕ, List, ◌++◌, codes, Option, Some, None}
 use Rattle.std.specs.Fmt.{decimal}
 use Rattle.term_values.specs.Trees.{Tree}
 use Rattle.mech_rows.specs.declared.refusal.Refusal.{Refusal}

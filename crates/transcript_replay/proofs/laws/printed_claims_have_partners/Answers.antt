@@ -1,5 +1,4 @@
-use Rattle.transcript_replay.proofs.Claimed.{claim_is_shown, printed_partner, shown_is_claim}
-use Rattle.transcript_replay.proofs.Output.{world_after_is_sound}
+use Rattle.transcript_replay.proofs.Claimed.{claim_is_shown, none_is_printed, printed_partner, shown_is_claim}
 use Rattle.transcript_replay.proofs.laws.printed_claims_have_partners.Goals as goal
 
 pub returns-clause-shown : goal.returns-clause-shown
@@ -8,8 +7,8 @@ returns-clause-shown c = λ w run slots claims. claim_is_shown w run slots claim
 pub returns-clause-claims : goal.returns-clause-claims
 returns-clause-claims c = λ w run done shown. shown_is_claim w run done shown
 
+pub returns-clause-none : goal.returns-clause-none
+returns-clause-none c = λ w run done shown. none_is_printed w run done shown
+
 pub returns-clause-partner : goal.returns-clause-partner
 returns-clause-partner c = λ bytes k w h run after tells among done shown. printed_partner bytes k w h run after tells among done shown
-
-pub returns-clause-sound : goal.returns-clause-sound
-returns-clause-sound c = λ bytes k w after. world_after_is_sound bytes k w after
