@@ -11,8 +11,8 @@ use Rattle.mech_rows.specs.Facts.{peer_of}
 use Rattle.mech_rows.specs.Notes.{noted, tree_of_value}
 use Rattle.mech_rows.specs.Found.{found}
 use Rattle.mech_rows.specs.declared.notes.Value.{Value}
-use Rattle.mech_rows.specs.Same.{same}
-use Rattle.mech_rows.proofs.SameTrees.{is_same}
+use Rattle.term_values.specs.Same.{same}
+use Rattle.term_values.proofs.SameTrees.{is_same}
 use Rattle.mech_rows.specs.Runs.{Notes}
 use Rattle.agreement_laws.specs.declared.history.Happened.{Happened}
 use Rattle.agreement_laws.specs.Partners.{same_noted, alike, alike_filled, is_peer, agrees, agrees_filled, first_where, partner_on, partner_of}

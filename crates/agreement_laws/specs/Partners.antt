@@ -8,7 +8,7 @@ use Rattle.mech_rows.specs.Facts.{same_mech, same_role, peer_of}
 use Rattle.mech_rows.specs.Heads.{Head}
 use Rattle.mech_rows.specs.Notes.{noted}
 use Rattle.mech_rows.specs.Runs.{Notes, Run}
-use Rattle.mech_rows.specs.Same.{same}
+use Rattle.term_values.specs.Same.{same}
 use Rattle.agreement_laws.specs.declared.history.Happened.{Happened}
 
 -- the two values are there and equal

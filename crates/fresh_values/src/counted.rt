@@ -2,7 +2,7 @@ ghost use Rattle.std.specs.Prelude.{◌≡◌, ◌+◌, ◌-◌, ◌^◌, ◌↔
 ghost use Rattle.outside.specs.Causes.{HasCause};
 ghost use Rattle.outside.specs.Tally.{one_more};
 ghost use Rattle.outside.specs.Told.{nonce_draw, part_draw};
-ghost use Rattle.fresh_values.specs.Counts.{counted_value};
+ghost use Rattle.fresh_values.specs.Counts.{counted_value, failed_draws};
 
 use outside::{Draws, Failed};
 use std::marker::Model;
@@ -63,6 +63,7 @@ impl Counted {
         ensures drawn { IfOk result (λ k. (k ≡ self.old.place) × (self.new ≡ record self.old { place = self.old.place + 1 })) }
         ensures spent { IsErr result ↔ (self.old.place ≡ 2 ^ 64 - 1) }
         ensures stays { OnErr result (self.new ≡ record self.old { faults = one_more self.old.faults }) }
+        ensures quiet { OnOk result (failed_draws self.new ≡ failed_draws self.old) }
         ensures cause { HasCause self.old.faults self.new.faults result }
     {
         let k = self.counter;
@@ -121,6 +122,7 @@ impl Draws for Counted {
         ensures drawn { IfOk result (λ nonce. (nonce ≡ counted_value nonce_draw self.old.place) × (self.new ≡ record self.old { place = self.old.place + 1 })) }
         ensures spent { IsErr result ↔ (self.old.place ≡ 2 ^ 64 - 1) }
         ensures stays { OnErr result (self.new ≡ record self.old { faults = one_more self.old.faults }) }
+        ensures quiet { OnOk result (failed_draws self.new ≡ failed_draws self.old) }
         ensures cause { HasCause self.old.faults self.new.faults result }
     {
         let k = self.next()?;
@@ -136,6 +138,7 @@ impl Draws for Counted {
         ensures drawn { IfOk result (λ part. (part ≡ counted_value part_draw self.old.place) × (self.new ≡ record self.old { place = self.old.place + 1 })) }
         ensures spent { IsErr result ↔ (self.old.place ≡ 2 ^ 64 - 1) }
         ensures stays { OnErr result (self.new ≡ record self.old { faults = one_more self.old.faults }) }
+        ensures quiet { OnOk result (failed_draws self.new ≡ failed_draws self.old) }
         ensures cause { HasCause self.old.faults self.new.faults result }
     {
         let k = self.next()?;

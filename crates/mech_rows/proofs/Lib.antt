@@ -6,7 +6,6 @@ pub mod RowUse
 pub mod Symbolic
 pub mod Unique
 pub mod KeyParts
-pub mod SameTrees
 pub mod Reading
 pub mod Parts
 pub mod VerdictFits
@@ -14,3 +13,4 @@ pub mod Taking
 pub mod Welcomed
 pub mod Sending
 pub mod Stepping
+pub mod Lookups

@@ -21,8 +21,8 @@ use Rattle.mech_rows.specs.Rows.{kind_of, is_stamp, issuer, has_third, Cover}
 use Rattle.mech_rows.specs.Heads.{Head, name_of}
 use Rattle.mech_rows.specs.Facts.{same_slot}
 use Rattle.mech_rows.specs.Found.{found}
-use Rattle.mech_rows.specs.Same.{same}
-use Rattle.mech_rows.proofs.SameTrees.{same_is}
+use Rattle.term_values.specs.Same.{same}
+use Rattle.term_values.proofs.SameTrees.{same_is}
 use Rattle.mech_rows.proofs.RowUse.{same_slot_is}
 use Rattle.mech_rows.specs.Runs.{Notes, Keys, HasKind, Extends, Opening, Got, value, part_bytes, key_under, names, body, seen, seen_in}
 use Rattle.mech_rows.specs.Steps.{ItemBy, ItemsAre, openings, got_of, got_of_slots, stamp_in}

@@ -18,8 +18,8 @@ use Rattle.mech_rows.specs.Rows.{kind_of}
 use Rattle.mech_rows.specs.Heads.{Head}
 use Rattle.mech_rows.specs.Facts.{same_slot}
 use Rattle.mech_rows.specs.Found.{found}
-use Rattle.mech_rows.specs.Same.{same}
-use Rattle.mech_rows.proofs.SameTrees.{same_is}
+use Rattle.term_values.specs.Same.{same}
+use Rattle.term_values.proofs.SameTrees.{same_is}
 use Rattle.mech_rows.proofs.RowUse.{same_slot_is, same_slot_refl}
 use Rattle.mech_rows.specs.Runs.{Notes, HasKind, Extends, value, noted_or_empty, clear_item, clear_slots}
 use Rattle.mech_rows.specs.Verdict.{Noted, items_of, bind, at, has_kind, is_name, are_kinds, are_clear, clear_names, note_slot, note_slots, note_clear}

@@ -16,8 +16,8 @@ use Rattle.mech_rows.specs.declared.refusal.Refusal.TheVariants.{WrongValue}
 use Rattle.mech_rows.specs.Rows.{kind_of, Cover, Pass, row_of}
 use Rattle.mech_rows.specs.Heads.{Head}
 use Rattle.mech_rows.specs.Found.{found}
-use Rattle.mech_rows.specs.Same.{same}
-use Rattle.mech_rows.proofs.SameTrees.{same_refl}
+use Rattle.term_values.specs.Same.{same}
+use Rattle.term_values.proofs.SameTrees.{same_refl}
 use Rattle.mech_rows.proofs.RowUse.{nth_among}
 use Rattle.mech_rows.specs.Runs.{Notes, HasKind, nth, value, clear_item, clear_slots}
 use Rattle.mech_rows.specs.Verdict.{Noted, bind, at, has_kind, is_name, are_kinds, are_clear, clear_names, note_slot, note_slots, note_clear}

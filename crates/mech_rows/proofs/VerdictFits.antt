@@ -14,8 +14,8 @@ use Rattle.mech_rows.specs.declared.refusal.Refusal.{Refusal}
 use Rattle.mech_rows.specs.declared.refusal.Refusal.TheVariants.{WrongPass, WrongShape, WrongNames}
 use Rattle.mech_rows.specs.Rows.{kind_of, tag_of, Cover, Pass, row_of}
 use Rattle.mech_rows.specs.Found.{found}
-use Rattle.mech_rows.specs.Same.{same}
-use Rattle.mech_rows.proofs.SameTrees.{same_is}
+use Rattle.term_values.specs.Same.{same}
+use Rattle.term_values.proofs.SameTrees.{same_is}
 use Rattle.mech_rows.specs.Runs.{Keys, value, clear_slots, seen_in, nth}
 use Rattle.mech_rows.specs.Verdict.{Noted, State, Taken, bind, items_of, at, are_clear, are_kept, clear_names, message_items, note_clear, read_slots, text_bytes, text_refusal, refused_text, unless, seens, judged_parts, on_pass, verdict}
 use Rattle.mech_rows.specs.Lawful.{acted_slots, AreNoted, IsWelcome, Receives, TextsAllowed, are_ready, are_judged}

@@ -19,8 +19,8 @@ use Rattle.mech_rows.specs.declared.refusal.Refusal.TheVariants.{WrongPass, Wron
 use Rattle.mech_rows.specs.Rows.{kind_of, tag_of, Cover, Pass, row_of}
 use Rattle.mech_rows.specs.Heads.{Head}
 use Rattle.mech_rows.specs.Found.{found}
-use Rattle.mech_rows.specs.Same.{same}
-use Rattle.mech_rows.proofs.SameTrees.{same_refl}
+use Rattle.term_values.specs.Same.{same}
+use Rattle.term_values.proofs.SameTrees.{same_refl}
 use Rattle.mech_rows.specs.Runs.{Notes, Keys, Opening, Got, Extends, nth, value, noted_or_empty, clear_item, clear_slots, key_under, names, body, seen, seen_in, seen_slots}
 use Rattle.mech_rows.specs.Steps.{ItemBy, ItemsAre, openings, got_of}
 use Rattle.mech_rows.specs.Verdict.{Noted, State, Taken, bind, at, has_kind, is_name, are_kinds, are_clear, are_kept, clear_names, name_kinds, same_names, message_items, body_items, note_slots, note_clear, names_of, taken_by, opened_part, tested_part, joined, seens, judged_part, judged_parts, read_slots, text_bytes, text_refusal, refused_text, unless, on_pass, verdict}

@@ -11,9 +11,9 @@ pub mod Notes
 pub mod Bodies
 pub mod Rings
 pub mod Codes
-pub mod Same
 pub mod Verdict
 pub mod Lawful
 pub mod Openings
 pub mod Replies
 pub mod Moves
+pub mod Noting

@@ -19,7 +19,7 @@ use Rattle.mech_rows.specs.Heads.{Head, name_of}
 use Rattle.mech_rows.specs.Found.{found}
 use Rattle.mech_rows.specs.Runs.{Run, Keys, value, key_under, body, nth, clear_slots, Opening, Got}
 use Rattle.mech_rows.specs.Steps.{got_of_slots}
-use Rattle.mech_rows.specs.Same.{same}
+use Rattle.term_values.specs.Same.{same}
 
 -- what a run has noted, the first note first
 abbrev pub Noted : Type 0

@@ -1,4 +1,4 @@
-ghost use Rattle.std.specs.Prelude.{◌≡◌, ◌+◌, ◌↔◌, ℕ, Option, Some, IsErr, IfOk, OnErr, is_err};
+ghost use Rattle.std.specs.Prelude.{◌≡◌, ◌+◌, ◌↔◌, ℕ, Option, Some, IsErr, IfOk, OnOk, OnErr, is_err};
 ghost use Rattle.outside.specs.Causes.{HasCause};
 ghost use Rattle.outside.specs.Tally.{IsToFail, no_calls, tally_after};
 ghost use Rattle.outside.specs.Told.{Told, IsDrawn, nonce_draw, part_draw, counted_draw};
@@ -25,20 +25,22 @@ pub trait Draws {
     ///
     /// # Errors
     ///
-    /// [`Failed`] only where the count of faults rose in this call; the place stays.
+    /// [`Failed`] only where the count of faults rose in this call; the place stays. After Ok the count stays.
     fn nonce(&mut self) -> Result<Nonce, Failed>
         ensures drawn { IfOk result (λ nonce. IsDrawn nonce_draw (told self.old) (told self.new) nonce) }
         ensures stays { OnErr result (told self.new ≡ told self.old) }
+        ensures quiet { OnOk result (fault_count self.new ≡ fault_count self.old) }
         ensures cause { HasCause (fault_count self.old) (fault_count self.new) result };
 
     /// The part at the place of the next draw, which rises by one.
     ///
     /// # Errors
     ///
-    /// [`Failed`] only where the count of faults rose in this call; the place stays.
+    /// [`Failed`] only where the count of faults rose in this call; the place stays. After Ok the count stays.
     fn part(&mut self) -> Result<Part, Failed>
         ensures drawn { IfOk result (λ part. IsDrawn part_draw (told self.old) (told self.new) part) }
         ensures stays { OnErr result (told self.new ≡ told self.old) }
+        ensures quiet { OnOk result (fault_count self.new ≡ fault_count self.old) }
         ensures cause { HasCause (fault_count self.old) (fault_count self.new) result };
 }
 

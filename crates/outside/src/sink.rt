@@ -33,7 +33,7 @@ pub trait Sink {
 }
 
 /// Appends the whole piece, or nothing for want of memory.
-fn append(bytes: &mut Vec<u8>, piece: &[u8]) -> Result<(), PutFault>
+pub(crate) fn append(bytes: &mut Vec<u8>, piece: &[u8]) -> Result<(), PutFault>
     ensures bytes { PutAppends (Some bytes.old.items) (Some bytes.new.items) result piece.now }
     ensures stays { OnErr result (bytes.new.items ≡ bytes.old.items) }
     ensures memory { OnErr result (result ≡ Err fault.Memory) }

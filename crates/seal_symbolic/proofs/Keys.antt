@@ -8,7 +8,7 @@ use Rattle.term_values.specs.declared.small.Key.TheVariants.{One, Two}
 use Rattle.term_values.proofs.Lists.{and_both, and_left, and_right}
 use Rattle.term_values.proofs.SameBytes.{same_bytes_refl, same_start}
 use Rattle.term_values.proofs.SameTrees.{same_is, same_refl}
-use Rattle.tagged_codec.specs.Grammar.{IsKey}
+use Rattle.term_values.specs.Limits.{IsKey}
 use Rattle.seal_trait.specs.Items.{IsItemOf, IsShort}
 use Rattle.seal_symbolic.specs.Symbolic.{body_of, is_check, same_key}
 

@@ -3,7 +3,7 @@ ghost use Rattle.std.specs.Option.{option_copied};
 ghost use Rattle.term_values.specs.Same.{same};
 ghost use Rattle.term_values.specs.SameBytes.{same_bytes};
 ghost use Rattle.term_values.specs.Trees.{check, seal};
-ghost use Rattle.tagged_codec.specs.Grammar.{IsKey};
+ghost use Rattle.term_values.specs.Limits.{IsKey};
 ghost use Rattle.seal_symbolic.specs.Symbolic.{body_of, is_check, same_key};
 
 use seal_trait::Sealer;

@@ -2,7 +2,7 @@
 use Rattle.std.specs.Prelude.{ℕ, ◌+◌, ◌≤◌}
 use Rattle.term_values.specs.Trees.{Tree, depth_of}
 use Rattle.term_values.specs.Lengths.{length_of}
-use Rattle.tagged_codec.specs.Grammar.{Fits}
+use Rattle.term_values.specs.Limits.{Fits}
 
 -- a body that has a spelling, of at most 2,048 bytes
 pub record IsShort (body : Tree) : Type 0 where

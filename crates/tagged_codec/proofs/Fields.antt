@@ -7,7 +7,8 @@ use Rattle.std.proofs.lemmas.List.{take_at, drop_at, take-append-drop, length-ap
 use Rattle.std.proofs.lemmas.Nat.{be_bytes_2, be_bytes_4, be_bytes_8, from_be_bytes-to_be_bytes_2, from_be_bytes-to_be_bytes_4, from_be_bytes-to_be_bytes_8}
 use Rattle.term_values.specs.declared.Key.{Key}
 use Rattle.term_values.specs.declared.Key.TheVariants.{One, Two}
-use Rattle.tagged_codec.specs.Grammar.{IsKey, key_spelling, sized_spelling}
+use Rattle.term_values.specs.Limits.{IsKey}
+use Rattle.tagged_codec.specs.Grammar.{key_spelling, sized_spelling}
 use Rattle.term_values.specs.declared.Why.{Why}
 use Rattle.tagged_codec.specs.Reading.{◌>>=◌, Stop, byte_at, bytes_at, key_at, key_under, number_at, sized_at}
 

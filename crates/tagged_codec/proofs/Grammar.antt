@@ -7,7 +7,8 @@ use Rattle.term_values.specs.declared.Stamp.{Stamp}
 use Rattle.term_values.specs.declared.Stamp.TheVariants.{Time, Seq}
 use Rattle.term_values.specs.Trees.{Tree, name, stamp, nonce, part, text, tag, blob, tuple, seal, check, Trees, none, item, trees}
 use Rattle.term_values.specs.Lengths.{length_of, length_of_key, lengths_of}
-use Rattle.tagged_codec.specs.Grammar.{AllFit, Fits, IsKey, key_spelling, spelling, spellings, stamp_spelling}
+use Rattle.term_values.specs.Limits.{AllFit, Fits, IsKey}
+use Rattle.tagged_codec.specs.Grammar.{key_spelling, spelling, spellings, stamp_spelling}
 
 length_of_key_spelling : (key : Key) → IsKey key → length (key_spelling key) ≡ length_of_key key
 length_of_key_spelling (One p) h = omega arith

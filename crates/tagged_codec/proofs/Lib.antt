@@ -8,3 +8,4 @@ pub mod Refusals
 pub mod Relation
 pub mod Stops
 pub mod Terms
+pub mod Whole

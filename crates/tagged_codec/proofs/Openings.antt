@@ -5,7 +5,8 @@ use Rattle.term_values.specs.declared.Key.{Key}
 use Rattle.term_values.specs.declared.Key.TheVariants.{One, Two}
 use Rattle.term_values.specs.declared.Stamp.TheVariants.{Time, Seq}
 use Rattle.term_values.specs.Trees.{Tree, name, stamp, tuple, seal, check, Trees, none, item, count_of, depth_of, greatest_depth}
-use Rattle.tagged_codec.specs.Grammar.{AllFit, Fits, IsKey, key_spelling, sized_spelling, spelling, spellings}
+use Rattle.term_values.specs.Limits.{AllFit, Fits, IsKey}
+use Rattle.tagged_codec.specs.Grammar.{key_spelling, sized_spelling, spelling, spellings}
 use Rattle.tagged_codec.proofs.Fields.{IsBytes, IsBytes-append, length_bytes, wide32, wide64}
 use Rattle.tagged_codec.proofs.Relation.{StandsAt}
 use Rattle.tagged_codec.proofs.Terms.{some_depth}

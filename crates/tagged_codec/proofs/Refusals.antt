@@ -7,7 +7,8 @@ use Rattle.term_values.specs.declared.Why.{Why}
 use Rattle.term_values.specs.declared.Why.TheVariants as why
 use Rattle.term_values.specs.Trees.{Tree, text, blob, seal, check}
 use Rattle.tagged_codec.specs.Faults.{IsKind, IsSealKind, Refused, no_kind, no_key_kind, zero_name, text_high, text_low, blob_high, blob_low, many_items, deep_seal, deep_items, in_items, in_body, RefusedIn, in_first, in_later}
-use Rattle.tagged_codec.specs.Grammar.{IsKey, key_spelling, spelling}
+use Rattle.term_values.specs.Limits.{IsKey}
+use Rattle.tagged_codec.specs.Grammar.{key_spelling, spelling}
 use Rattle.tagged_codec.specs.Reading.{Read, Stop, byte_at, bytes_at, items_at, key_at, key_under, tree_under, name_at, sealed_at, sized_at, term_at, tuple_at}
 use Rattle.tagged_codec.proofs.Fields.{IsBytes, key_again}
 use Rattle.tagged_codec.proofs.Openings.{Opening, AllOpening, Opening-front, KeyOpening-front, seals, checks, open_name, open_sized, open_one, open_key, open_body, open_first, open_later, open_items, open_tuple}

@@ -1,7 +1,8 @@
 -- The relation and the function say the same.
 use Rattle.std.proofs.Common.{◌≡◌, ◌↔◌, ℕ, suc, ◌+◌, ◌≤◌, List, ◌∷◌, ◌++◌, length, refl, ap, ◌∙◌, arith}
 use Rattle.term_values.specs.Trees.{Tree, name, stamp, nonce, part, text, tag, blob, tuple, seal, check, Trees, none, item, count_of, depth_of, greatest_depth}
-use Rattle.tagged_codec.specs.Grammar.{AllFit, Fits, IsSpelling, key_spelling, spelling, spellings}
+use Rattle.term_values.specs.Limits.{AllFit, Fits}
+use Rattle.tagged_codec.specs.Grammar.{IsSpelling, key_spelling, spelling, spellings}
 use Rattle.tagged_codec.specs.Relation.{Spells, SpellsAll}
 
 -- a term that may stand at the level, and its spelling

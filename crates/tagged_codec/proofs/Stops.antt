@@ -11,7 +11,8 @@ use Rattle.term_values.specs.declared.Why.{Why}
 use Rattle.term_values.specs.declared.Why.TheVariants as why
 use Rattle.term_values.specs.Trees.{Tree, stamp, nonce, part, text, tag, blob, tuple, seal, check, trees, depth_of}
 use Rattle.tagged_codec.specs.Faults.{IsSealKind, Refused, no_kind, no_key_kind, zero_name, text_high, text_low, blob_high, blob_low, many_items, deep_seal, deep_items, in_items, in_body, RefusedIn, in_first, in_later}
-use Rattle.tagged_codec.specs.Grammar.{Fits, IsKey, key_spelling, spelling}
+use Rattle.term_values.specs.Limits.{Fits, IsKey}
+use Rattle.tagged_codec.specs.Grammar.{key_spelling, spelling}
 use Rattle.tagged_codec.specs.Reading.{◌>>=◌, Read, Stop, byte_at, bytes_at, items_at, key_at, key_under, tree_under, name_at, number_at, sealed_at, sized_at, term_at, tuple_at}
 use Rattle.tagged_codec.proofs.Fields.{IsBytes, bind_err, chosen, stop_is, byte_takes, bytes_takes, key_takes}
 use Rattle.tagged_codec.proofs.Openings.{Opening, AllOpening, Opening-front, KeyOpening, KeyOpening-front, IsFixed, IsSized, IsSealing, seals, checks, open_name, open_time, open_seq, open_fixed, open_sized, open_one, open_two, open_short_two, open_key, open_body, open_first, open_later, open_items, open_tuple}

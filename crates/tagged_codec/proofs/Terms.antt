@@ -13,7 +13,8 @@ use Rattle.term_values.specs.declared.Why.TheVariants as why
 use Rattle.term_values.specs.Trees.{Tree, name, stamp, nonce, part, text, tag, blob, tuple, seal, check, Trees, none, item, trees, untrees, count_of, depth_of, greatest_depth}
 use Rattle.term_values.proofs.Trees.{count_trees, trees_untrees}
 use Rattle.tagged_codec.specs.Faults.{IsKind}
-use Rattle.tagged_codec.specs.Grammar.{AllFit, Fits, IsKey, IsSpelling, key_spelling, spelling, spellings}
+use Rattle.term_values.specs.Limits.{AllFit, Fits, IsKey}
+use Rattle.tagged_codec.specs.Grammar.{IsSpelling, key_spelling, spelling, spellings}
 use Rattle.tagged_codec.specs.Reading.{◌>>=◌, Read, Stop, byte_at, bytes_at, items_at, key_at, tree_under, name_at, number_at, sealed_at, sized_at, term_at, tuple_at}
 use Rattle.tagged_codec.proofs.Fields.{IsBytes, IsBytes-take, bind_ok, guard_ok, chosen, ok_is, Takes, Takes-then, byte_takes, bytes_takes, bytes_again, wide32, wide64, number_takes, number_again, sized_takes, sized_again, key_takes, key_again}
 

@@ -4,7 +4,8 @@ use Rattle.term_values.specs.declared.Key.{Key}
 use Rattle.term_values.specs.declared.Why.{Why}
 use Rattle.term_values.specs.declared.Why.TheVariants.{Kind, Short, ZeroName, LongText, LongBlob, ManyItems, Deep, LongMessage, Extra}
 use Rattle.term_values.specs.Trees.{Tree}
-use Rattle.tagged_codec.specs.Grammar.{IsKey, IsSpelling, key_spelling}
+use Rattle.term_values.specs.Limits.{IsKey}
+use Rattle.tagged_codec.specs.Grammar.{IsSpelling, key_spelling}
 use Rattle.tagged_codec.specs.Relation.{Spells}
 
 -- each is a byte

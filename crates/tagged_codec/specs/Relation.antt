@@ -3,7 +3,8 @@
 use Rattle.std.specs.Prelude.{◌≡◌, ℕ, suc, ◌<◌, ◌≤◌, ◌^◌, List, [], ◌∷◌, ◌++◌, length}
 use Rattle.std.specs.Int.{w32, to_be_bytes}
 use Rattle.term_values.specs.Trees.{Tree, name, stamp, nonce, part, text, tag, blob, tuple, seal, check, Trees, none, item, count_of}
-use Rattle.tagged_codec.specs.Grammar.{IsKey, IsStamp, key_spelling, sized_spelling, stamp_spelling}
+use Rattle.term_values.specs.Limits.{IsKey, IsStamp}
+use Rattle.tagged_codec.specs.Grammar.{key_spelling, sized_spelling, stamp_spelling}
 
 -- The whole term stands at level 1, an item of a tuple and the body of a seal or check one level below.
 abbrev mutual

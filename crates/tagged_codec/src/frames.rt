@@ -42,6 +42,7 @@ pub fn frame(alloc: Global, message: &[u8]) -> Result<Vec<u8>, OutOfMemory>
 fn first_message(bytes: &[u8]) -> Result<Option<&[u8]>, u16>
     ensures whole { IfOk result (λ first. MatchOption first (HoldsNoFrame bytes.now) (λ message. TakesFirst bytes.now message.now (drop (length (frame_of message.now)) bytes.now))) }
     ensures long { (n : ℕ) → (result ≡ Err n) ↔ IsTooLong bytes.now n }
+    ensures few { result ≡ Ok None → length bytes.now < 8194 }
 {
     let [high, low, rest @ ..] = bytes else {
         return Ok(None);
@@ -107,18 +108,19 @@ impl Deframer {
     }
 
     /// Takes the first whole frame's message off. `None` where the kept bytes hold no whole frame and announce no
-    /// length above 8,192. After an `Err`, for want of memory too, they stay as they were, so after `TooLong` each later
-    /// call answers the same.
-    pub fn next(&mut self, alloc: Global) -> Result<Option<Vec<u8>>, FrameFault>
+    /// length above 8,192; they are then fewer than 8,194. After an `Err`, for want of memory too, they stay as they
+    /// were, so after `TooLong` each later call answers the same.
+    pub fn next(&mut self) -> Result<Option<Vec<u8>>, FrameFault>
         ensures taken { IfOk result (λ first. IfSome first (λ message. TakesFirst self.old message.items self.new)) }
         ensures none { result ≡ Ok None → HoldsNoFrame self.old × (self.new ≡ self.old) }
+        ensures few { result ≡ Ok None → length self.new < 8194 }
         ensures long { (n : ℕ) → (result ≡ Err (FrameFault.TooLong n)) ↔ IsTooLong self.old n }
         ensures err { OnErr result (self.new ≡ self.old) }
     {
         match first_message(&self.bytes[self.start..]) {
             Ok(None) => Ok(None),
             Ok(Some(message)) => {
-                let taken = Vec::from_slice(alloc, message)?;
+                let taken = Vec::from_slice(*self.bytes.allocator(), message)?;
                 self.start += 2 + message.len();
                 Ok(Some(taken))
             }

@@ -1,7 +1,7 @@
 ghost use Rattle.std.specs.Prelude.{◌≡◌, ◌↔◌, ◌≤◌, ◌++◌, ◌⊎◌, List, ℕ, length, take};
 ghost use Rattle.term_values.specs.declared.Why.{Why};
 ghost use Rattle.term_values.specs.Trees.{Tree};
-ghost use Rattle.tagged_codec.specs.Faults.{IsBytes, IsFault};
+ghost use Rattle.tagged_codec.specs.Faults.{IsBytes, IsFault, IsWholeFault};
 ghost use Rattle.tagged_codec.specs.Frames.{frames_of, BeginsNoFrame, Ran};
 ghost use Rattle.tagged_codec.specs.Grammar.{IsSpelling};
 ghost use Rattle.tagged_codec.specs.Relation.{Spells};
@@ -27,6 +27,14 @@ pub fn one_fault()
 /// A law: bytes that begin with no spelling have a fault.
 pub fn some_fault()
     ensures { (bytes : List ℕ) → IsBytes bytes → ((t : Tree) × (n : ℕ) × IsSpelling t (take n bytes)) ⊎ ((place : ℕ) × (why : Why) × IsFault bytes place why) }
+{}
+
+/// A law: bytes are one whole spelling or have a whole fault, never both, and a whole fault is one, with one place and
+/// one reason.
+pub fn one_whole_fault()
+    ensures one { (bytes : List ℕ) (p q : ℕ) (w v : Why) → IsBytes bytes → IsWholeFault bytes p w → IsWholeFault bytes q v → (p ≡ q) × (w ≡ v) }
+    ensures never_both { (bytes : List ℕ) (t : Tree) (p : ℕ) (w : Why) → IsSpelling t bytes → IsWholeFault bytes p w → ⊥ }
+    ensures either { (bytes : List ℕ) → IsBytes bytes → ((t : Tree) × IsSpelling t bytes) ⊎ ((place : ℕ) × (why : Why) × IsWholeFault bytes place why) }
 {}
 
 /// A law: all that was fed to a deframer is the frames of the messages taken, followed by what is kept.

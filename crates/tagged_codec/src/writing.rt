@@ -1,6 +1,7 @@
 ghost use Rattle.std.specs.Prelude.{◌≡◌, ◌+◌, ◌<◌, ◌≤◌, ◌^◌, List, ℕ, [], ◌∷◌, ◌++◌, length, OnOk, IfOk, Err};
 ghost use Rattle.term_values.specs.Trees.{count_of, trees};
-ghost use Rattle.tagged_codec.specs.Grammar.{AllFit, Fits, IsInLimits, IsKey, IsSpelling, key_spelling, sized_spelling, spelling, spellings};
+ghost use Rattle.term_values.specs.Limits.{AllFit, Fits, IsKey};
+ghost use Rattle.tagged_codec.specs.Grammar.{IsInLimits, IsSpelling, key_spelling, sized_spelling, spelling, spellings};
 
 use crate::kinds;
 use crate::kinds::{BLOB_MAX, ITEMS_MAX, LEVELS_MAX, SPELLING_MAX};

@@ -1,5 +1,5 @@
 -- Whether two terms are the same, as a test.
-use Rattle.std.specs.Prelude.{ℕ, Bool, true, false, ◌==◌, ◌&&◌}
+use Rattle.std.specs.Prelude.{Bool, true, false, ◌==◌, ◌&&◌}
 use base.Stored.{Gv, gnil, gnum, gcons}
 use Rattle.term_values.specs.Trees.{Tree}
 use Rattle.term_values.specs.Codes.{tree_code}
