@@ -146,7 +146,7 @@ fn begun<T: RoleState>(alloc: Global, mech: Mech, role: Role) -> Result<T, Fail>
 fn stamp_for<T: RoleState>(state: &T, ring: &Ring) -> Option<Stamp>
     ensures needed { is_some result ≡ needs_stamp (T.state_of state.now) }
 {
-    if !state.needs_stamp() {
+    if !state.stamps_now() {
         return None;
     }
     let number = if ring.me.get() == 1 { 5 } else { 6 };

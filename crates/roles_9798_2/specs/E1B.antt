@@ -1,34 +1,29 @@
 -- The runs of B in E1.
-use Rattle.std.specs.Prelude.{Bool, List, [], ◌∷◌, None}
-use Rattle.term_values.specs.Trees.{stamp, text}
+use Rattle.std.specs.Prelude.{ℕ, Bool, []}
 use Rattle.mech_rows.specs.declared.kinds.Mech.TheVariants.{E1}
 use Rattle.mech_rows.specs.declared.kinds.Role.TheVariants.{B}
-use Rattle.mech_rows.specs.declared.kinds.Slot.TheVariants.{Ta, X1, X2}
 use Rattle.mech_rows.specs.Heads.{Head}
-use Rattle.mech_rows.specs.Runs.{Got}
 use Rattle.mech_rows.specs.Openings.{plays}
 use Rattle.mech_rows.specs.Verdict.{Noted, State}
-use Rattle.roles_9798_2.specs.declared.e1b.E1B.{E1B}
-use Rattle.roles_9798_2.specs.declared.e1b.Own.{Own}
-use Rattle.roles_9798_2.specs.declared.e1b.First.{First}
-use Rattle.roles_9798_2.specs.declared.e1b.E1B.TheVariants.{Start, Done}
+use Rattle.text_hooks.specs.Names.{between}
+use Rattle.text_hooks.specs.declared.names.Pair.{Pair}
+use Rattle.text_hooks.specs.Shown.{sealed_token}
+use Rattle.roles_9798_2.specs.declared.e1.E1B.{E1B}
+use Rattle.roles_9798_2.specs.declared.e1.StageB.{StageB}
+use Rattle.roles_9798_2.specs.declared.e1.StageB.TheVariants.{Start, Done}
 
--- who takes part
-abbrev pub head : Own → Head
-head o = record { mech = E1; role = B; a = o.a; b = o.b; p = None }
+-- the run at a pass
+abbrev pub at : Pair → ℕ → Noted → State
+at n k notes = record { head = between E1 B n; next = k; notes = notes }
 
--- what the first message shows
-abbrev pub first_notes : First → Noted
-first_notes f = (X2, text f.x2) ∷ (Ta, stamp f.ta) ∷ (X1, text f.x1) ∷ []
+-- the run of a stage
+abbrev pub run : Pair → StageB → State
+run n Start = at n 0 []
+run n (Done shown) = at n 1 (sealed_token shown)
 
--- the stamp to judge: it is A's
-abbrev pub got_first : Own → First → List Got
-got_first o f = record { slot = Ta; sender = o.a; tagged = 1 ∷ 1 ∷ 1 ∷ 1 ∷ []; stamp = f.ta } ∷ []
-
--- the run of a state; B sends no text
+-- the run of a state
 abbrev pub state_of : E1B → State
-state_of (Start o) = record { head = head o; next = 0; notes = [] }
-state_of (Done o f) = record { head = head o; next = 1; notes = first_notes f }
+state_of s = run s.names s.stage
 
 -- B in E1
 abbrev pub is_e1b : Head → Bool

@@ -1,34 +1,31 @@
 -- The runs of A in E2.
-use Rattle.std.specs.Prelude.{Bool, List, [], ◌∷◌, ◌++◌, None}
-use Rattle.term_values.specs.Trees.{nonce, text}
+use Rattle.std.specs.Prelude.{ℕ, Bool}
 use Rattle.mech_rows.specs.declared.kinds.Mech.TheVariants.{E2}
 use Rattle.mech_rows.specs.declared.kinds.Role.TheVariants.{A}
-use Rattle.mech_rows.specs.declared.kinds.Slot.TheVariants.{Rb, X1, X2, X3}
 use Rattle.mech_rows.specs.Heads.{Head}
 use Rattle.mech_rows.specs.Openings.{plays}
 use Rattle.mech_rows.specs.Verdict.{Noted, State}
-use Rattle.roles_9798_2.specs.declared.e2a.E2A.{E2A}
-use Rattle.roles_9798_2.specs.declared.e2a.Own.{Own}
-use Rattle.roles_9798_2.specs.declared.e2a.First.{First}
-use Rattle.roles_9798_2.specs.declared.e2a.E2A.TheVariants.{Start, Heard, Done}
+use Rattle.text_hooks.specs.Names.{between}
+use Rattle.text_hooks.specs.Known.{challenged}
+use Rattle.text_hooks.specs.Shown.{second_texts}
+use Rattle.text_hooks.specs.declared.names.Pair.{Pair}
+use Rattle.roles_9798_2.specs.declared.e2.E2A.{E2A}
+use Rattle.roles_9798_2.specs.declared.e2.StageA.{StageA}
+use Rattle.roles_9798_2.specs.declared.e2.StageA.TheVariants.{Start, Heard, Done}
 
--- who takes part
-abbrev pub head : Own → Head
-head o = record { mech = E2; role = A; a = o.a; b = o.b; p = None }
+-- the run at a pass
+abbrev pub at : Pair → ℕ → Noted → State
+at n k notes = record { head = between E2 A n; next = k; notes = notes }
 
--- its own texts
-abbrev pub own_notes : Own → Noted
-own_notes o = (X2, text o.x2) ∷ (X3, text o.x3) ∷ []
-
--- what the first message shows
-abbrev pub first_notes : First → Noted
-first_notes f = (Rb, nonce f.rb) ∷ (X1, text f.x1) ∷ []
+-- the run of a stage
+abbrev pub run : Pair → StageA → State
+run n (Start own) = at n 0 (second_texts own)
+run n (Heard known) = at n 1 (challenged known)
+run n (Done known) = at n 2 (challenged known)
 
 -- the run of a state
 abbrev pub state_of : E2A → State
-state_of (Start o) = record { head = head o; next = 0; notes = own_notes o }
-state_of (Heard o f) = record { head = head o; next = 1; notes = own_notes o ++ first_notes f }
-state_of (Done o f) = record { head = head o; next = 2; notes = own_notes o ++ first_notes f }
+state_of s = run s.names s.stage
 
 -- A in E2
 abbrev pub is_e2a : Head → Bool

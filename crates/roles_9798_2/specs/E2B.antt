@@ -1,34 +1,38 @@
 -- The runs of B in E2.
-use Rattle.std.specs.Prelude.{Bool, List, [], ◌∷◌, ◌++◌, None}
-use Rattle.term_values.specs.Trees.{nonce, text}
+use Rattle.std.specs.Prelude.{ℕ, Bool, [], ◌∷◌, ◌++◌}
+use Rattle.term_values.specs.Trees.{text}
 use Rattle.mech_rows.specs.declared.kinds.Mech.TheVariants.{E2}
 use Rattle.mech_rows.specs.declared.kinds.Role.TheVariants.{B}
-use Rattle.mech_rows.specs.declared.kinds.Slot.TheVariants.{Rb, X1, X2, X3}
+use Rattle.mech_rows.specs.declared.kinds.Slot.TheVariants.{X2, X3}
 use Rattle.mech_rows.specs.Heads.{Head}
 use Rattle.mech_rows.specs.Openings.{plays}
 use Rattle.mech_rows.specs.Verdict.{Noted, State}
-use Rattle.roles_9798_2.specs.declared.e2b.E2B.{E2B}
-use Rattle.roles_9798_2.specs.declared.e2b.Own.{Own}
-use Rattle.roles_9798_2.specs.declared.e2b.Second.{Second}
-use Rattle.roles_9798_2.specs.declared.e2b.E2B.TheVariants.{Start, Asked, Done}
+use Rattle.text_hooks.specs.Names.{between}
+use Rattle.text_hooks.specs.Known.{asked}
+use Rattle.text_hooks.specs.Shown.{challenge_text}
+use Rattle.text_hooks.specs.declared.names.Pair.{Pair}
+use Rattle.roles_9798_2.specs.declared.e2.Answer.{Answer}
+use Rattle.roles_9798_2.specs.declared.e2.E2B.{E2B}
+use Rattle.roles_9798_2.specs.declared.e2.StageB.{StageB}
+use Rattle.roles_9798_2.specs.declared.e2.StageB.TheVariants.{Start, Asked, Done}
 
--- who takes part
-abbrev pub head : Own → Head
-head o = record { mech = E2; role = B; a = o.a; b = o.b; p = None }
+-- what the answer shows
+abbrev pub answer : Answer → Noted
+answer m = (X3, text m.x3) ∷ (X2, text m.x2) ∷ []
 
--- its own text
-abbrev pub own_notes : Own → Noted
-own_notes o = (X1, text o.x1) ∷ []
+-- the run at a pass
+abbrev pub at : Pair → ℕ → Noted → State
+at n k notes = record { head = between E2 B n; next = k; notes = notes }
 
--- what the second message shows
-abbrev pub second_notes : Second → Noted
-second_notes s = (X3, text s.x3) ∷ (X2, text s.x2) ∷ []
+-- the run of a stage
+abbrev pub run : Pair → StageB → State
+run n (Start own) = at n 0 (challenge_text own)
+run n (Asked known) = at n 1 (asked known)
+run n (Done known) = at n 2 (asked known.asked ++ answer known.answer)
 
 -- the run of a state
 abbrev pub state_of : E2B → State
-state_of (Start o) = record { head = head o; next = 0; notes = own_notes o }
-state_of (Asked o rb) = record { head = head o; next = 1; notes = own_notes o ++ (Rb, nonce rb) ∷ [] }
-state_of (Done o rb s) = record { head = head o; next = 2; notes = own_notes o ++ (Rb, nonce rb) ∷ second_notes s }
+state_of s = run s.names s.stage
 
 -- B in E2
 abbrev pub is_e2b : Head → Bool

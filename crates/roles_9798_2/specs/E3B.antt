@@ -1,39 +1,38 @@
 -- The runs of B in E3.
-use Rattle.std.specs.Prelude.{Bool, List, [], ◌∷◌, ◌++◌, None}
-use Rattle.term_values.specs.Trees.{stamp, text}
+use Rattle.std.specs.Prelude.{ℕ, Bool, [], ◌∷◌, ◌++◌}
+use Rattle.term_values.specs.Trees.{stamp}
 use Rattle.mech_rows.specs.declared.kinds.Mech.TheVariants.{E3}
 use Rattle.mech_rows.specs.declared.kinds.Role.TheVariants.{B}
-use Rattle.mech_rows.specs.declared.kinds.Slot.TheVariants.{Ta, Tb, X1, X2, X3, X4}
+use Rattle.mech_rows.specs.declared.kinds.Slot.TheVariants.{Tb}
 use Rattle.mech_rows.specs.Heads.{Head}
-use Rattle.mech_rows.specs.Runs.{Got}
 use Rattle.mech_rows.specs.Openings.{plays}
 use Rattle.mech_rows.specs.Verdict.{Noted, State}
-use Rattle.roles_9798_2.specs.declared.e3b.E3B.{E3B}
-use Rattle.roles_9798_2.specs.declared.e3b.Own.{Own}
-use Rattle.roles_9798_2.specs.declared.e3b.First.{First}
-use Rattle.roles_9798_2.specs.declared.e3b.E3B.TheVariants.{Start, Heard, Done}
+use Rattle.text_hooks.specs.Names.{between}
+use Rattle.text_hooks.specs.Shown.{answer_texts}
+use Rattle.text_hooks.specs.declared.names.Pair.{Pair}
+use Rattle.text_hooks.specs.Shown.{sealed_token}
+use Rattle.roles_9798_2.specs.declared.e3.TokenHeard.{TokenHeard}
+use Rattle.roles_9798_2.specs.declared.e3.E3B.{E3B}
+use Rattle.roles_9798_2.specs.declared.e3.StageB.{StageB}
+use Rattle.roles_9798_2.specs.declared.e3.StageB.TheVariants.{Start, Heard, Done}
 
--- who takes part
-abbrev pub head : Own → Head
-head o = record { mech = E3; role = B; a = o.a; b = o.b; p = None }
+-- once it has heard the token of A
+abbrev pub token_heard : TokenHeard → Noted
+token_heard m = answer_texts m.own ++ sealed_token m.token
 
--- its own texts
-abbrev pub own_notes : Own → Noted
-own_notes o = (X3, text o.x3) ∷ (X4, text o.x4) ∷ []
+-- the run at a pass
+abbrev pub at : Pair → ℕ → Noted → State
+at n k notes = record { head = between E3 B n; next = k; notes = notes }
 
--- what the first message shows
-abbrev pub first_notes : First → Noted
-first_notes f = (X2, text f.x2) ∷ (Ta, stamp f.ta) ∷ (X1, text f.x1) ∷ []
-
--- the stamp to judge: it is A's
-abbrev pub got_first : Own → First → List Got
-got_first o f = record { slot = Ta; sender = o.a; tagged = 1 ∷ 3 ∷ 1 ∷ 1 ∷ []; stamp = f.ta } ∷ []
+-- the run of a stage
+abbrev pub run : Pair → StageB → State
+run n (Start own) = at n 0 (answer_texts own)
+run n (Heard known) = at n 1 (token_heard known)
+run n (Done known) = at n 2 (token_heard known.heard ++ (Tb, stamp known.tb) ∷ [])
 
 -- the run of a state
 abbrev pub state_of : E3B → State
-state_of (Start o) = record { head = head o; next = 0; notes = own_notes o }
-state_of (Heard o f) = record { head = head o; next = 1; notes = own_notes o ++ first_notes f }
-state_of (Done o f tb) = record { head = head o; next = 2; notes = own_notes o ++ (first_notes f ++ (Tb, stamp tb) ∷ []) }
+state_of s = run s.names s.stage
 
 -- B in E3
 abbrev pub is_e3b : Head → Bool

@@ -1,35 +1,39 @@
 -- The runs of B in E4.
-use Rattle.std.specs.Prelude.{Bool, List, [], ◌∷◌, ◌++◌, None}
+use Rattle.std.specs.Prelude.{ℕ, Bool, [], ◌∷◌, ◌++◌}
 use Rattle.term_values.specs.Trees.{nonce, text}
 use Rattle.mech_rows.specs.declared.kinds.Mech.TheVariants.{E4}
 use Rattle.mech_rows.specs.declared.kinds.Role.TheVariants.{B}
-use Rattle.mech_rows.specs.declared.kinds.Slot.TheVariants.{Ra, Rb, X1, X2, X3, X4, X5}
+use Rattle.mech_rows.specs.declared.kinds.Slot.TheVariants.{Ra, X2, X3}
 use Rattle.mech_rows.specs.Heads.{Head}
 use Rattle.mech_rows.specs.Openings.{plays}
 use Rattle.mech_rows.specs.Verdict.{Noted, State}
-use Rattle.roles_9798_2.specs.declared.e4b.E4B.{E4B}
-use Rattle.roles_9798_2.specs.declared.e4b.Own.{Own}
-use Rattle.roles_9798_2.specs.declared.e4b.Second.{Second}
-use Rattle.roles_9798_2.specs.declared.e4b.E4B.TheVariants.{Start, Asked, Heard, Done}
-
--- who takes part
-abbrev pub head : Own → Head
-head o = record { mech = E4; role = B; a = o.a; b = o.b; p = None }
-
--- its own texts
-abbrev pub own_notes : Own → Noted
-own_notes o = (X1, text o.x1) ∷ (X4, text o.x4) ∷ (X5, text o.x5) ∷ []
+use Rattle.text_hooks.specs.Names.{between}
+use Rattle.text_hooks.specs.Known.{challenging}
+use Rattle.text_hooks.specs.Shown.{challenger_texts}
+use Rattle.text_hooks.specs.declared.names.Pair.{Pair}
+use Rattle.roles_9798_2.specs.declared.e4.Second.{Second}
+use Rattle.roles_9798_2.specs.declared.e4.E4B.{E4B}
+use Rattle.roles_9798_2.specs.declared.e4.StageB.{StageB}
+use Rattle.roles_9798_2.specs.declared.e4.StageB.TheVariants.{Start, Asked, Heard, Done}
 
 -- what the second message shows
-abbrev pub second_notes : Second → Noted
-second_notes s = (X3, text s.x3) ∷ (Ra, nonce s.ra) ∷ (X2, text s.x2) ∷ []
+abbrev pub second : Second → Noted
+second m = (X3, text m.x3) ∷ (Ra, nonce m.ra) ∷ (X2, text m.x2) ∷ []
+
+-- the run at a pass
+abbrev pub at : Pair → ℕ → Noted → State
+at n k notes = record { head = between E4 B n; next = k; notes = notes }
+
+-- the run of a stage
+abbrev pub run : Pair → StageB → State
+run n (Start own) = at n 0 (challenger_texts own)
+run n (Asked known) = at n 1 (challenging known)
+run n (Heard known) = at n 2 (challenging known.asked ++ second known.second)
+run n (Done known) = at n 3 (challenging known.asked ++ second known.second)
 
 -- the run of a state
 abbrev pub state_of : E4B → State
-state_of (Start o) = record { head = head o; next = 0; notes = own_notes o }
-state_of (Asked o rb) = record { head = head o; next = 1; notes = own_notes o ++ (Rb, nonce rb) ∷ [] }
-state_of (Heard o rb s) = record { head = head o; next = 2; notes = own_notes o ++ (Rb, nonce rb) ∷ second_notes s }
-state_of (Done o rb s) = record { head = head o; next = 3; notes = own_notes o ++ (Rb, nonce rb) ∷ second_notes s }
+state_of s = run s.names s.stage
 
 -- B in E4
 abbrev pub is_e4b : Head → Bool

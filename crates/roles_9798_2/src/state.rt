@@ -1,23 +1,19 @@
 ghost use Rattle.std.specs.Prelude.{◌≡◌};
-ghost use Rattle.roles_9798_2.specs.EStates.{plays_e};
+ghost use Rattle.roles_9798_2.specs.EStates.{plays_e, state_of};
 
-use crate::e1a::E1A;
-use crate::e1b::E1B;
-use crate::e2a::E2A;
-use crate::e2b::E2B;
-use crate::e3a::E3A;
-use crate::e3b::E3B;
-use crate::e4a::E4A;
-use crate::e4b::E4B;
-use mech_rows::{Got, Mech, Notes, Opening, Refusal, Ring, Role, RunHead, Stated, Texts};
+use crate::e1::{E1A, E1B};
+use crate::e2::{E2A, E2B};
+use crate::e3::{E3A, E3B};
+use crate::e4::{E4A, E4B};
+use mech_rows::{Mech, Refusal, Ring, Role, RunHead, Stated, Texts};
 use outside::Draws;
 use seal_trait::Sealer;
 use std::alloc::Global;
-use term_values::{OutOfMemory, Stamp, Term};
-use text_hooks::{Hook, Reply, RoleState, Taken};
+use term_values::{OutOfMemory, Stamp};
+use text_hooks::{Delivery, NoteList, Phase, Reply, RoleState, Taken};
 
 /// A state of A or B in a mechanism by encipherment.
-#[derive(Drop)]
+#[derive(Clone, PartialEq, Eq, Drop)]
 pub enum EState {
     /// A in E1.
     E1A(E1A),
@@ -43,37 +39,100 @@ impl Stated for EState {
     ghost state_of = { state_of_e };
 }
 
-/// The same of the state of each role.
+/// The same call of whichever role's state it is.
 macro_rules! each {
-    ($whole:expr, $state:ident => $answer:expr) => {
-        match $whole {
-            EState::E1A($state) => $answer,
-            EState::E1B($state) => $answer,
-            EState::E2A($state) => $answer,
-            EState::E2B($state) => $answer,
-            EState::E3A($state) => $answer,
-            EState::E3B($state) => $answer,
-            EState::E4A($state) => $answer,
-            EState::E4B($state) => $answer,
+    ($value:expr, $state:ident => $call:expr) => {
+        match $value {
+            EState::E1A($state) => $call,
+            EState::E1B($state) => $call,
+            EState::E2A($state) => $call,
+            EState::E2B($state) => $call,
+            EState::E3A($state) => $call,
+            EState::E3B($state) => $call,
+            EState::E4A($state) => $call,
+            EState::E4B($state) => $call,
         }
     };
 }
 
-/// What was taken, with this state after it.
-fn taken_as(after: EState, opened: Vec<Opening>, got: Vec<Got>) -> Taken<EState>
-    ensures taken { result ≡ record { after = after; opened = opened; got = got } }
-{
-    Taken { after, opened, got }
+/// A state of one role among those of all roles.
+trait OneOf: RoleState {
+    /// The same run. Takes no memory.
+    fn among(self) -> EState
+        ensures same { state_of result ≡ Self.state_of self };
 }
 
-/// What was said, with this state after it.
-fn reply_as(after: EState, message: Term, sealed: Vec<Opening>) -> Reply<EState>
-    ensures reply { result ≡ record { after = after; message = message; sealed = sealed } }
+impl OneOf for E1A {
+    fn among(self) -> EState {
+        EState::E1A(self)
+    }
+}
+
+impl OneOf for E1B {
+    fn among(self) -> EState {
+        EState::E1B(self)
+    }
+}
+
+impl OneOf for E2A {
+    fn among(self) -> EState {
+        EState::E2A(self)
+    }
+}
+
+impl OneOf for E2B {
+    fn among(self) -> EState {
+        EState::E2B(self)
+    }
+}
+
+impl OneOf for E3A {
+    fn among(self) -> EState {
+        EState::E3A(self)
+    }
+}
+
+impl OneOf for E3B {
+    fn among(self) -> EState {
+        EState::E3B(self)
+    }
+}
+
+impl OneOf for E4A {
+    fn among(self) -> EState {
+        EState::E4A(self)
+    }
+}
+
+impl OneOf for E4B {
+    fn among(self) -> EState {
+        EState::E4B(self)
+    }
+}
+
+/// What a state of one role took.
+fn taken<T: OneOf>(taken: Taken<T>) -> Taken<EState>
+    ensures after { state_of result.after ≡ T.state_of taken.after }
+    ensures opened { result.opened ≡ taken.opened }
+    ensures got { result.got ≡ taken.got }
+{
+    Taken {
+        after: taken.after.among(),
+        opened: taken.opened,
+        got: taken.got,
+    }
+}
+
+/// What a state of one role says.
+fn replied<T: OneOf>(reply: Reply<T>) -> Reply<EState>
+    ensures after { state_of result.after ≡ T.state_of reply.after }
+    ensures message { result.message ≡ reply.message }
+    ensures sealed { result.sealed ≡ reply.sealed }
 {
     Reply {
-        after,
-        message,
-        sealed,
+        after: reply.after.among(),
+        message: reply.message,
+        sealed: reply.sealed,
     }
 }
 
@@ -82,42 +141,24 @@ impl RoleState for EState {
 
     fn begin(alloc: Global, head: &RunHead, texts: &Texts) -> Result<EState, OutOfMemory> {
         match (head.mech, head.role) {
-            (Mech::E1, Role::A) => Ok(EState::E1A(E1A::begin(alloc, head, texts)?)),
-            (Mech::E1, Role::B) => Ok(EState::E1B(E1B::begin(alloc, head, texts)?)),
-            (Mech::E2, Role::A) => Ok(EState::E2A(E2A::begin(alloc, head, texts)?)),
-            (Mech::E2, Role::B) => Ok(EState::E2B(E2B::begin(alloc, head, texts)?)),
-            (Mech::E3, Role::A) => Ok(EState::E3A(E3A::begin(alloc, head, texts)?)),
-            (Mech::E3, Role::B) => Ok(EState::E3B(E3B::begin(alloc, head, texts)?)),
-            (Mech::E4, Role::A) => Ok(EState::E4A(E4A::begin(alloc, head, texts)?)),
-            (Mech::E4, Role::B) => Ok(EState::E4B(E4B::begin(alloc, head, texts)?)),
+            (Mech::E1, Role::A) => Ok(E1A::begin(alloc, head, texts)?.among()),
+            (Mech::E1, Role::B) => Ok(E1B::begin(alloc, head, texts)?.among()),
+            (Mech::E2, Role::A) => Ok(E2A::begin(alloc, head, texts)?.among()),
+            (Mech::E2, Role::B) => Ok(E2B::begin(alloc, head, texts)?.among()),
+            (Mech::E3, Role::A) => Ok(E3A::begin(alloc, head, texts)?.among()),
+            (Mech::E3, Role::B) => Ok(E3B::begin(alloc, head, texts)?.among()),
+            (Mech::E4, Role::A) => Ok(E4A::begin(alloc, head, texts)?.among()),
+            (Mech::E4, Role::B) => Ok(E4B::begin(alloc, head, texts)?.among()),
             _ => unreachable!(),
         }
     }
 
     fn head(&self) -> RunHead {
-        match self {
-            EState::E1A(state) => state.head(),
-            EState::E1B(state) => state.head(),
-            EState::E2A(state) => state.head(),
-            EState::E2B(state) => state.head(),
-            EState::E3A(state) => state.head(),
-            EState::E3B(state) => state.head(),
-            EState::E4A(state) => state.head(),
-            EState::E4B(state) => state.head(),
-        }
+        each!(self, state => state.head())
     }
 
     fn copy(&self, alloc: Global) -> Result<EState, OutOfMemory> {
-        match self {
-            EState::E1A(state) => Ok(EState::E1A(state.copy(alloc)?)),
-            EState::E1B(state) => Ok(EState::E1B(state.copy(alloc)?)),
-            EState::E2A(state) => Ok(EState::E2A(state.copy(alloc)?)),
-            EState::E2B(state) => Ok(EState::E2B(state.copy(alloc)?)),
-            EState::E3A(state) => Ok(EState::E3A(state.copy(alloc)?)),
-            EState::E3B(state) => Ok(EState::E3B(state.copy(alloc)?)),
-            EState::E4A(state) => Ok(EState::E4A(state.copy(alloc)?)),
-            EState::E4B(state) => Ok(EState::E4B(state.copy(alloc)?)),
-        }
+        each!(self, state => Ok(state.copy(alloc)?.among()))
     }
 
     fn same(&self, other: &EState) -> bool {
@@ -134,79 +175,19 @@ impl RoleState for EState {
         }
     }
 
-    fn notes(&self, alloc: Global) -> Result<Notes, OutOfMemory> {
-        each!(self, state => state.notes(alloc))
+    fn note(&self, alloc: Global, notes: &mut NoteList) -> Result<(), OutOfMemory> {
+        each!(self, state => state.note(alloc, notes))
     }
 
-    fn next(&self) -> u8 {
-        each!(self, state => state.next())
+    fn phase(&self) -> Phase {
+        each!(self, state => state.phase())
     }
 
-    fn sends_first(&self) -> bool {
-        each!(self, state => state.sends_first())
+    fn read<S: Sealer>(&self, delivery: &Delivery<S>) -> Result<Taken<EState>, Refusal> {
+        each!(self, state => Ok(taken(state.read(delivery)?)))
     }
 
-    fn sends(&self) -> bool {
-        each!(self, state => state.sends())
-    }
-
-    fn receives(&self) -> bool {
-        each!(self, state => state.receives())
-    }
-
-    fn is_done(&self) -> bool {
-        each!(self, state => state.is_done())
-    }
-
-    fn needs_stamp(&self) -> bool {
-        each!(self, state => state.needs_stamp())
-    }
-
-    fn take<S: Sealer>(
-        &self,
-        alloc: Global,
-        sealer: &S,
-        ring: &Ring,
-        hook: &Hook,
-        term: &Term,
-    ) -> Result<Taken<EState>, Refusal> {
-        match self {
-            EState::E1A(state) => {
-                let taken = state.take(alloc, sealer, ring, hook, term)?;
-                Ok(taken_as(EState::E1A(taken.after), taken.opened, taken.got))
-            }
-            EState::E1B(state) => {
-                let taken = state.take(alloc, sealer, ring, hook, term)?;
-                Ok(taken_as(EState::E1B(taken.after), taken.opened, taken.got))
-            }
-            EState::E2A(state) => {
-                let taken = state.take(alloc, sealer, ring, hook, term)?;
-                Ok(taken_as(EState::E2A(taken.after), taken.opened, taken.got))
-            }
-            EState::E2B(state) => {
-                let taken = state.take(alloc, sealer, ring, hook, term)?;
-                Ok(taken_as(EState::E2B(taken.after), taken.opened, taken.got))
-            }
-            EState::E3A(state) => {
-                let taken = state.take(alloc, sealer, ring, hook, term)?;
-                Ok(taken_as(EState::E3A(taken.after), taken.opened, taken.got))
-            }
-            EState::E3B(state) => {
-                let taken = state.take(alloc, sealer, ring, hook, term)?;
-                Ok(taken_as(EState::E3B(taken.after), taken.opened, taken.got))
-            }
-            EState::E4A(state) => {
-                let taken = state.take(alloc, sealer, ring, hook, term)?;
-                Ok(taken_as(EState::E4A(taken.after), taken.opened, taken.got))
-            }
-            EState::E4B(state) => {
-                let taken = state.take(alloc, sealer, ring, hook, term)?;
-                Ok(taken_as(EState::E4B(taken.after), taken.opened, taken.got))
-            }
-        }
-    }
-
-    fn say<S: Sealer, D: Draws>(
+    fn speak<S: Sealer, D: Draws>(
         &self,
         alloc: Global,
         sealer: &S,
@@ -214,39 +195,6 @@ impl RoleState for EState {
         draws: &mut D,
         stamp: Option<Stamp>,
     ) -> Result<Reply<EState>, Refusal> {
-        match self {
-            EState::E1A(state) => {
-                let reply = state.say(alloc, sealer, ring, draws, stamp)?;
-                Ok(reply_as(EState::E1A(reply.after), reply.message, reply.sealed))
-            }
-            EState::E1B(state) => {
-                let reply = state.say(alloc, sealer, ring, draws, stamp)?;
-                Ok(reply_as(EState::E1B(reply.after), reply.message, reply.sealed))
-            }
-            EState::E2A(state) => {
-                let reply = state.say(alloc, sealer, ring, draws, stamp)?;
-                Ok(reply_as(EState::E2A(reply.after), reply.message, reply.sealed))
-            }
-            EState::E2B(state) => {
-                let reply = state.say(alloc, sealer, ring, draws, stamp)?;
-                Ok(reply_as(EState::E2B(reply.after), reply.message, reply.sealed))
-            }
-            EState::E3A(state) => {
-                let reply = state.say(alloc, sealer, ring, draws, stamp)?;
-                Ok(reply_as(EState::E3A(reply.after), reply.message, reply.sealed))
-            }
-            EState::E3B(state) => {
-                let reply = state.say(alloc, sealer, ring, draws, stamp)?;
-                Ok(reply_as(EState::E3B(reply.after), reply.message, reply.sealed))
-            }
-            EState::E4A(state) => {
-                let reply = state.say(alloc, sealer, ring, draws, stamp)?;
-                Ok(reply_as(EState::E4A(reply.after), reply.message, reply.sealed))
-            }
-            EState::E4B(state) => {
-                let reply = state.say(alloc, sealer, ring, draws, stamp)?;
-                Ok(reply_as(EState::E4B(reply.after), reply.message, reply.sealed))
-            }
-        }
+        each!(self, state => Ok(replied(state.speak(alloc, sealer, ring, draws, stamp)?)))
     }
 }

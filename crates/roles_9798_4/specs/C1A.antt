@@ -1,28 +1,30 @@
 -- The runs of A in C1.
-use Rattle.std.specs.Prelude.{Bool, [], ◌∷◌, ◌++◌, None}
-use Rattle.term_values.specs.Trees.{stamp, text}
+use Rattle.std.specs.Prelude.{ℕ, Bool}
 use Rattle.mech_rows.specs.declared.kinds.Mech.TheVariants.{C1}
 use Rattle.mech_rows.specs.declared.kinds.Role.TheVariants.{A}
-use Rattle.mech_rows.specs.declared.kinds.Slot.TheVariants.{Ta, X1, X2}
 use Rattle.mech_rows.specs.Heads.{Head}
-use Rattle.mech_rows.specs.Verdict.{Noted, State}
 use Rattle.mech_rows.specs.Openings.{plays}
-use Rattle.roles_9798_4.specs.declared.c1a.C1A.{C1A}
-use Rattle.roles_9798_4.specs.declared.c1a.Own.{Own}
-use Rattle.roles_9798_4.specs.declared.c1a.C1A.TheVariants.{Start, Done}
+use Rattle.mech_rows.specs.Verdict.{Noted, State}
+use Rattle.text_hooks.specs.Names.{between}
+use Rattle.text_hooks.specs.Known.{stamped}
+use Rattle.text_hooks.specs.Shown.{first_texts}
+use Rattle.text_hooks.specs.declared.names.Pair.{Pair}
+use Rattle.roles_9798_4.specs.declared.c1.C1A.{C1A}
+use Rattle.roles_9798_4.specs.declared.c1.StageA.{StageA}
+use Rattle.roles_9798_4.specs.declared.c1.StageA.TheVariants.{Start, Done}
 
--- who takes part
-abbrev pub head : Own → Head
-head o = record { mech = C1; role = A; a = o.a; b = o.b; p = None }
+-- the run at a pass
+abbrev pub at : Pair → ℕ → Noted → State
+at n k notes = record { head = between C1 A n; next = k; notes = notes }
 
--- its own texts
-abbrev pub own_notes : Own → Noted
-own_notes o = (X1, text o.x1) ∷ (X2, text o.x2) ∷ []
+-- the run of a stage
+abbrev pub run : Pair → StageA → State
+run n (Start own) = at n 0 (first_texts own)
+run n (Done known) = at n 1 (stamped known)
 
 -- the run of a state
 abbrev pub state_of : C1A → State
-state_of (Start o) = record { head = head o; next = 0; notes = own_notes o }
-state_of (Done o ta) = record { head = head o; next = 1; notes = own_notes o ++ (Ta, stamp ta) ∷ [] }
+state_of s = run s.names s.stage
 
 -- A in C1
 abbrev pub is_c1a : Head → Bool

@@ -1,29 +1,29 @@
 -- The runs of B in C1.
-use Rattle.std.specs.Prelude.{Bool, [], ◌∷◌, None}
-use Rattle.term_values.specs.Trees.{stamp, text}
+use Rattle.std.specs.Prelude.{ℕ, Bool, []}
 use Rattle.mech_rows.specs.declared.kinds.Mech.TheVariants.{C1}
 use Rattle.mech_rows.specs.declared.kinds.Role.TheVariants.{B}
-use Rattle.mech_rows.specs.declared.kinds.Slot.TheVariants.{Ta, X1, X2}
 use Rattle.mech_rows.specs.Heads.{Head}
-use Rattle.mech_rows.specs.Verdict.{Noted, State}
 use Rattle.mech_rows.specs.Openings.{plays}
-use Rattle.roles_9798_4.specs.declared.c1b.C1B.{C1B}
-use Rattle.roles_9798_4.specs.declared.c1b.Own.{Own}
-use Rattle.roles_9798_4.specs.declared.c1b.First.{First}
-use Rattle.roles_9798_4.specs.declared.c1b.C1B.TheVariants.{Start, Done}
+use Rattle.mech_rows.specs.Verdict.{Noted, State}
+use Rattle.text_hooks.specs.Names.{between}
+use Rattle.text_hooks.specs.Shown.{checked_token}
+use Rattle.text_hooks.specs.declared.names.Pair.{Pair}
+use Rattle.roles_9798_4.specs.declared.c1.C1B.{C1B}
+use Rattle.roles_9798_4.specs.declared.c1.StageB.{StageB}
+use Rattle.roles_9798_4.specs.declared.c1.StageB.TheVariants.{Start, Done}
 
--- who takes part
-abbrev pub head : Own → Head
-head o = record { mech = C1; role = B; a = o.a; b = o.b; p = None }
+-- the run at a pass
+abbrev pub at : Pair → ℕ → Noted → State
+at n k notes = record { head = between C1 B n; next = k; notes = notes }
 
--- what the first message shows
-abbrev pub first_notes : First → Noted
-first_notes f = (Ta, stamp f.ta) ∷ (X1, text f.x1) ∷ (X2, text f.x2) ∷ []
+-- the run of a stage
+abbrev pub run : Pair → StageB → State
+run n Start = at n 0 []
+run n (Done token) = at n 1 (checked_token token)
 
 -- the run of a state
 abbrev pub state_of : C1B → State
-state_of (Start o) = record { head = head o; next = 0; notes = [] }
-state_of (Done o f) = record { head = head o; next = 1; notes = first_notes f }
+state_of s = run s.names s.stage
 
 -- B in C1
 abbrev pub is_c1b : Head → Bool

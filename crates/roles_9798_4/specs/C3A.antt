@@ -1,34 +1,38 @@
 -- The runs of A in C3.
-use Rattle.std.specs.Prelude.{Bool, [], ◌∷◌, ◌++◌, None}
+use Rattle.std.specs.Prelude.{ℕ, Bool, [], ◌∷◌, ◌++◌}
 use Rattle.term_values.specs.Trees.{stamp, text}
 use Rattle.mech_rows.specs.declared.kinds.Mech.TheVariants.{C3}
 use Rattle.mech_rows.specs.declared.kinds.Role.TheVariants.{A}
-use Rattle.mech_rows.specs.declared.kinds.Slot.TheVariants.{Ta, Tb, X1, X2, X3, X4}
+use Rattle.mech_rows.specs.declared.kinds.Slot.TheVariants.{Tb, X3, X4}
 use Rattle.mech_rows.specs.Heads.{Head}
-use Rattle.mech_rows.specs.Verdict.{Noted, State}
 use Rattle.mech_rows.specs.Openings.{plays}
-use Rattle.roles_9798_4.specs.declared.c3a.C3A.{C3A}
-use Rattle.roles_9798_4.specs.declared.c3a.Own.{Own}
-use Rattle.roles_9798_4.specs.declared.c3a.Second.{Second}
-use Rattle.roles_9798_4.specs.declared.c3a.C3A.TheVariants.{Start, Asked, Done}
+use Rattle.mech_rows.specs.Verdict.{Noted, State}
+use Rattle.text_hooks.specs.Names.{between}
+use Rattle.text_hooks.specs.Known.{stamped}
+use Rattle.text_hooks.specs.Shown.{first_texts}
+use Rattle.text_hooks.specs.declared.names.Pair.{Pair}
+use Rattle.roles_9798_4.specs.declared.c3.ReturnToken.{ReturnToken}
+use Rattle.roles_9798_4.specs.declared.c3.C3A.{C3A}
+use Rattle.roles_9798_4.specs.declared.c3.StageA.{StageA}
+use Rattle.roles_9798_4.specs.declared.c3.StageA.TheVariants.{Start, Sent, Done}
 
--- who takes part
-abbrev pub head : Own → Head
-head o = record { mech = C3; role = A; a = o.a; b = o.b; p = None }
+-- what the token in return shows
+abbrev pub return_token : ReturnToken → Noted
+return_token m = (Tb, stamp m.tb) ∷ (X3, text m.x3) ∷ (X4, text m.x4) ∷ []
 
--- its own texts
-abbrev pub own_notes : Own → Noted
-own_notes o = (X1, text o.x1) ∷ (X2, text o.x2) ∷ []
+-- the run at a pass
+abbrev pub at : Pair → ℕ → Noted → State
+at n k notes = record { head = between C3 A n; next = k; notes = notes }
 
--- what the second message shows
-abbrev pub second_notes : Second → Noted
-second_notes s = (Tb, stamp s.tb) ∷ (X3, text s.x3) ∷ (X4, text s.x4) ∷ []
+-- the run of a stage
+abbrev pub run : Pair → StageA → State
+run n (Start own) = at n 0 (first_texts own)
+run n (Sent known) = at n 1 (stamped known)
+run n (Done known) = at n 2 (stamped known.sent ++ return_token known.token)
 
 -- the run of a state
 abbrev pub state_of : C3A → State
-state_of (Start o) = record { head = head o; next = 0; notes = own_notes o }
-state_of (Asked o ta) = record { head = head o; next = 1; notes = own_notes o ++ (Ta, stamp ta) ∷ [] }
-state_of (Done o ta s) = record { head = head o; next = 2; notes = own_notes o ++ (Ta, stamp ta) ∷ second_notes s }
+state_of s = run s.names s.stage
 
 -- A in C3
 abbrev pub is_c3a : Head → Bool

@@ -1,34 +1,37 @@
 -- The runs of B in C3.
-use Rattle.std.specs.Prelude.{Bool, [], ◌∷◌, ◌++◌, None}
-use Rattle.term_values.specs.Trees.{stamp, text}
+use Rattle.std.specs.Prelude.{ℕ, Bool, [], ◌∷◌, ◌++◌}
+use Rattle.term_values.specs.Trees.{stamp}
 use Rattle.mech_rows.specs.declared.kinds.Mech.TheVariants.{C3}
 use Rattle.mech_rows.specs.declared.kinds.Role.TheVariants.{B}
-use Rattle.mech_rows.specs.declared.kinds.Slot.TheVariants.{Ta, Tb, X1, X2, X3, X4}
+use Rattle.mech_rows.specs.declared.kinds.Slot.TheVariants.{Tb}
 use Rattle.mech_rows.specs.Heads.{Head}
-use Rattle.mech_rows.specs.Verdict.{Noted, State}
 use Rattle.mech_rows.specs.Openings.{plays}
-use Rattle.roles_9798_4.specs.declared.c3b.C3B.{C3B}
-use Rattle.roles_9798_4.specs.declared.c3b.Own.{Own}
-use Rattle.roles_9798_4.specs.declared.c3b.First.{First}
-use Rattle.roles_9798_4.specs.declared.c3b.C3B.TheVariants.{Start, Heard, Done}
+use Rattle.mech_rows.specs.Verdict.{Noted, State}
+use Rattle.text_hooks.specs.Names.{between}
+use Rattle.text_hooks.specs.Shown.{answer_texts, checked_token}
+use Rattle.text_hooks.specs.declared.names.Pair.{Pair}
+use Rattle.roles_9798_4.specs.declared.c3.TokenHeard.{TokenHeard}
+use Rattle.roles_9798_4.specs.declared.c3.C3B.{C3B}
+use Rattle.roles_9798_4.specs.declared.c3.StageB.{StageB}
+use Rattle.roles_9798_4.specs.declared.c3.StageB.TheVariants.{Start, Heard, Done}
 
--- who takes part
-abbrev pub head : Own → Head
-head o = record { mech = C3; role = B; a = o.a; b = o.b; p = None }
+-- once it has heard the token of A
+abbrev pub token_heard : TokenHeard → Noted
+token_heard m = answer_texts m.own ++ checked_token m.token
 
--- its own texts
-abbrev pub own_notes : Own → Noted
-own_notes o = (X3, text o.x3) ∷ (X4, text o.x4) ∷ []
+-- the run at a pass
+abbrev pub at : Pair → ℕ → Noted → State
+at n k notes = record { head = between C3 B n; next = k; notes = notes }
 
--- what the first message shows
-abbrev pub first_notes : First → Noted
-first_notes f = (Ta, stamp f.ta) ∷ (X1, text f.x1) ∷ (X2, text f.x2) ∷ []
+-- the run of a stage
+abbrev pub run : Pair → StageB → State
+run n (Start own) = at n 0 (answer_texts own)
+run n (Heard known) = at n 1 (token_heard known)
+run n (Done known) = at n 2 (token_heard known.heard ++ (Tb, stamp known.tb) ∷ [])
 
 -- the run of a state
 abbrev pub state_of : C3B → State
-state_of (Start o) = record { head = head o; next = 0; notes = own_notes o }
-state_of (Heard o f) = record { head = head o; next = 1; notes = own_notes o ++ first_notes f }
-state_of (Done o f tb) = record { head = head o; next = 2; notes = own_notes o ++ first_notes f ++ (Tb, stamp tb) ∷ [] }
+state_of s = run s.names s.stage
 
 -- B in C3
 abbrev pub is_c3b : Head → Bool

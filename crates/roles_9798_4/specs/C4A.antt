@@ -1,40 +1,39 @@
 -- The runs of A in C4.
-use Rattle.std.specs.Prelude.{Bool, [], ◌∷◌, ◌++◌, None}
-use Rattle.term_values.specs.Trees.{nonce, text}
+use Rattle.std.specs.Prelude.{ℕ, Bool, [], ◌∷◌, ◌++◌}
+use Rattle.term_values.specs.Trees.{text}
 use Rattle.mech_rows.specs.declared.kinds.Mech.TheVariants.{C4}
 use Rattle.mech_rows.specs.declared.kinds.Role.TheVariants.{A}
-use Rattle.mech_rows.specs.declared.kinds.Slot.TheVariants.{Ra, Rb, X1, X2, X3, X4, X5}
+use Rattle.mech_rows.specs.declared.kinds.Slot.TheVariants.{X4, X5}
 use Rattle.mech_rows.specs.Heads.{Head}
-use Rattle.mech_rows.specs.Verdict.{Noted, State}
 use Rattle.mech_rows.specs.Openings.{plays}
-use Rattle.roles_9798_4.specs.declared.c4a.C4A.{C4A}
-use Rattle.roles_9798_4.specs.declared.c4a.Own.{Own}
-use Rattle.roles_9798_4.specs.declared.c4a.First.{First}
-use Rattle.roles_9798_4.specs.declared.c4a.Third.{Third}
-use Rattle.roles_9798_4.specs.declared.c4a.C4A.TheVariants.{Start, Heard, Asked, Done}
-
--- who takes part
-abbrev pub head : Own → Head
-head o = record { mech = C4; role = A; a = o.a; b = o.b; p = None }
-
--- its own texts
-abbrev pub own_notes : Own → Noted
-own_notes o = (X2, text o.x2) ∷ (X3, text o.x3) ∷ []
-
--- what the first message shows
-abbrev pub first_notes : First → Noted
-first_notes f = (Rb, nonce f.rb) ∷ (X1, text f.x1) ∷ []
+use Rattle.mech_rows.specs.Verdict.{Noted, State}
+use Rattle.text_hooks.specs.Names.{between}
+use Rattle.text_hooks.specs.Known.{challenged, sent}
+use Rattle.text_hooks.specs.Shown.{second_texts}
+use Rattle.text_hooks.specs.declared.names.Pair.{Pair}
+use Rattle.roles_9798_4.specs.declared.c4.Third.{Third}
+use Rattle.roles_9798_4.specs.declared.c4.C4A.{C4A}
+use Rattle.roles_9798_4.specs.declared.c4.StageA.{StageA}
+use Rattle.roles_9798_4.specs.declared.c4.StageA.TheVariants.{Start, Heard, Sent, Done}
 
 -- what the third message shows
-abbrev pub third_notes : Third → Noted
-third_notes t = (X4, text t.x4) ∷ (X5, text t.x5) ∷ []
+abbrev pub third : Third → Noted
+third m = (X4, text m.x4) ∷ (X5, text m.x5) ∷ []
+
+-- the run at a pass
+abbrev pub at : Pair → ℕ → Noted → State
+at n k notes = record { head = between C4 A n; next = k; notes = notes }
+
+-- the run of a stage
+abbrev pub run : Pair → StageA → State
+run n (Start own) = at n 0 (second_texts own)
+run n (Heard known) = at n 1 (challenged known)
+run n (Sent known) = at n 2 (sent known)
+run n (Done known) = at n 3 (sent known.sent ++ third known.third)
 
 -- the run of a state
 abbrev pub state_of : C4A → State
-state_of (Start o) = record { head = head o; next = 0; notes = own_notes o }
-state_of (Heard o f) = record { head = head o; next = 1; notes = own_notes o ++ first_notes f }
-state_of (Asked o f ra) = record { head = head o; next = 2; notes = own_notes o ++ first_notes f ++ (Ra, nonce ra) ∷ [] }
-state_of (Done o f ra t) = record { head = head o; next = 3; notes = own_notes o ++ first_notes f ++ (Ra, nonce ra) ∷ third_notes t }
+state_of s = run s.names s.stage
 
 -- A in C4
 abbrev pub is_c4a : Head → Bool

@@ -1,23 +1,19 @@
 ghost use Rattle.std.specs.Prelude.{◌≡◌};
 ghost use Rattle.roles_9798_4.specs.CStates.{plays_c, state_of};
 
-use crate::c1a::C1A;
-use crate::c1b::C1B;
-use crate::c2a::C2A;
-use crate::c2b::C2B;
-use crate::c3a::C3A;
-use crate::c3b::C3B;
-use crate::c4a::C4A;
-use crate::c4b::C4B;
-use mech_rows::{Mech, Notes, Refusal, Ring, Role, RunHead, Stated, Texts};
+use crate::c1::{C1A, C1B};
+use crate::c2::{C2A, C2B};
+use crate::c3::{C3A, C3B};
+use crate::c4::{C4A, C4B};
+use mech_rows::{Mech, Refusal, Ring, Role, RunHead, Stated, Texts};
 use outside::Draws;
 use seal_trait::Sealer;
 use std::alloc::Global;
-use term_values::{OutOfMemory, Stamp, Term};
-use text_hooks::{Hook, Reply, RoleState, Taken};
+use term_values::{OutOfMemory, Stamp};
+use text_hooks::{Delivery, NoteList, Phase, Reply, RoleState, Taken};
 
 /// A state of A or B in a mechanism by checks.
-#[derive(Drop)]
+#[derive(Clone, PartialEq, Eq, Drop)]
 pub enum CState {
     /// A in C1.
     C1A(C1A),
@@ -41,6 +37,22 @@ impl Stated for CState {
     ghost use Rattle.roles_9798_4.specs.CStates.{state_of as state_of_c};
 
     ghost state_of = { state_of_c };
+}
+
+/// The same call of whichever role's state it is.
+macro_rules! each {
+    ($value:expr, $state:ident => $call:expr) => {
+        match $value {
+            CState::C1A($state) => $call,
+            CState::C1B($state) => $call,
+            CState::C2A($state) => $call,
+            CState::C2B($state) => $call,
+            CState::C3A($state) => $call,
+            CState::C3B($state) => $call,
+            CState::C4A($state) => $call,
+            CState::C4B($state) => $call,
+        }
+    };
 }
 
 /// A state of one role among those of all roles.
@@ -142,29 +154,11 @@ impl RoleState for CState {
     }
 
     fn head(&self) -> RunHead {
-        match self {
-            CState::C1A(state) => state.head(),
-            CState::C1B(state) => state.head(),
-            CState::C2A(state) => state.head(),
-            CState::C2B(state) => state.head(),
-            CState::C3A(state) => state.head(),
-            CState::C3B(state) => state.head(),
-            CState::C4A(state) => state.head(),
-            CState::C4B(state) => state.head(),
-        }
+        each!(self, state => state.head())
     }
 
     fn copy(&self, alloc: Global) -> Result<CState, OutOfMemory> {
-        match self {
-            CState::C1A(state) => Ok(state.copy(alloc)?.among()),
-            CState::C1B(state) => Ok(state.copy(alloc)?.among()),
-            CState::C2A(state) => Ok(state.copy(alloc)?.among()),
-            CState::C2B(state) => Ok(state.copy(alloc)?.among()),
-            CState::C3A(state) => Ok(state.copy(alloc)?.among()),
-            CState::C3B(state) => Ok(state.copy(alloc)?.among()),
-            CState::C4A(state) => Ok(state.copy(alloc)?.among()),
-            CState::C4B(state) => Ok(state.copy(alloc)?.among()),
-        }
+        each!(self, state => Ok(state.copy(alloc)?.among()))
     }
 
     fn same(&self, other: &CState) -> bool {
@@ -181,118 +175,19 @@ impl RoleState for CState {
         }
     }
 
-    fn notes(&self, alloc: Global) -> Result<Notes, OutOfMemory> {
-        match self {
-            CState::C1A(state) => state.notes(alloc),
-            CState::C1B(state) => state.notes(alloc),
-            CState::C2A(state) => state.notes(alloc),
-            CState::C2B(state) => state.notes(alloc),
-            CState::C3A(state) => state.notes(alloc),
-            CState::C3B(state) => state.notes(alloc),
-            CState::C4A(state) => state.notes(alloc),
-            CState::C4B(state) => state.notes(alloc),
-        }
+    fn note(&self, alloc: Global, notes: &mut NoteList) -> Result<(), OutOfMemory> {
+        each!(self, state => state.note(alloc, notes))
     }
 
-    fn next(&self) -> u8 {
-        match self {
-            CState::C1A(state) => state.next(),
-            CState::C1B(state) => state.next(),
-            CState::C2A(state) => state.next(),
-            CState::C2B(state) => state.next(),
-            CState::C3A(state) => state.next(),
-            CState::C3B(state) => state.next(),
-            CState::C4A(state) => state.next(),
-            CState::C4B(state) => state.next(),
-        }
+    fn phase(&self) -> Phase {
+        each!(self, state => state.phase())
     }
 
-    fn sends_first(&self) -> bool {
-        match self {
-            CState::C1A(state) => state.sends_first(),
-            CState::C1B(state) => state.sends_first(),
-            CState::C2A(state) => state.sends_first(),
-            CState::C2B(state) => state.sends_first(),
-            CState::C3A(state) => state.sends_first(),
-            CState::C3B(state) => state.sends_first(),
-            CState::C4A(state) => state.sends_first(),
-            CState::C4B(state) => state.sends_first(),
-        }
+    fn read<S: Sealer>(&self, delivery: &Delivery<S>) -> Result<Taken<CState>, Refusal> {
+        each!(self, state => Ok(taken(state.read(delivery)?)))
     }
 
-    fn sends(&self) -> bool {
-        match self {
-            CState::C1A(state) => state.sends(),
-            CState::C1B(state) => state.sends(),
-            CState::C2A(state) => state.sends(),
-            CState::C2B(state) => state.sends(),
-            CState::C3A(state) => state.sends(),
-            CState::C3B(state) => state.sends(),
-            CState::C4A(state) => state.sends(),
-            CState::C4B(state) => state.sends(),
-        }
-    }
-
-    fn receives(&self) -> bool {
-        match self {
-            CState::C1A(state) => state.receives(),
-            CState::C1B(state) => state.receives(),
-            CState::C2A(state) => state.receives(),
-            CState::C2B(state) => state.receives(),
-            CState::C3A(state) => state.receives(),
-            CState::C3B(state) => state.receives(),
-            CState::C4A(state) => state.receives(),
-            CState::C4B(state) => state.receives(),
-        }
-    }
-
-    fn is_done(&self) -> bool {
-        match self {
-            CState::C1A(state) => state.is_done(),
-            CState::C1B(state) => state.is_done(),
-            CState::C2A(state) => state.is_done(),
-            CState::C2B(state) => state.is_done(),
-            CState::C3A(state) => state.is_done(),
-            CState::C3B(state) => state.is_done(),
-            CState::C4A(state) => state.is_done(),
-            CState::C4B(state) => state.is_done(),
-        }
-    }
-
-    fn needs_stamp(&self) -> bool {
-        match self {
-            CState::C1A(state) => state.needs_stamp(),
-            CState::C1B(state) => state.needs_stamp(),
-            CState::C2A(state) => state.needs_stamp(),
-            CState::C2B(state) => state.needs_stamp(),
-            CState::C3A(state) => state.needs_stamp(),
-            CState::C3B(state) => state.needs_stamp(),
-            CState::C4A(state) => state.needs_stamp(),
-            CState::C4B(state) => state.needs_stamp(),
-        }
-    }
-
-    fn take<S: Sealer>(
-        &self,
-        alloc: Global,
-        sealer: &S,
-        ring: &Ring,
-        hook: &Hook,
-        term: &Term,
-    ) -> Result<Taken<CState>, Refusal> {
-        match self {
-            CState::C1A(state) => Ok(taken(state.take(alloc, sealer, ring, hook, term)?)),
-            CState::C1B(state) => Ok(taken(state.take(alloc, sealer, ring, hook, term)?)),
-            CState::C2A(state) => Ok(taken(state.take(alloc, sealer, ring, hook, term)?)),
-            CState::C2B(state) => Ok(taken(state.take(alloc, sealer, ring, hook, term)?)),
-            CState::C3A(state) => Ok(taken(state.take(alloc, sealer, ring, hook, term)?)),
-            CState::C3B(state) => Ok(taken(state.take(alloc, sealer, ring, hook, term)?)),
-            CState::C4A(state) => Ok(taken(state.take(alloc, sealer, ring, hook, term)?)),
-            CState::C4B(state) => Ok(taken(state.take(alloc, sealer, ring, hook, term)?)),
-        }
-    }
-
-    fn say<S: Sealer, D: Draws>(
+    fn speak<S: Sealer, D: Draws>(
         &self,
         alloc: Global,
         sealer: &S,
@@ -300,15 +195,6 @@ impl RoleState for CState {
         draws: &mut D,
         stamp: Option<Stamp>,
     ) -> Result<Reply<CState>, Refusal> {
-        match self {
-            CState::C1A(state) => Ok(replied(state.say(alloc, sealer, ring, draws, stamp)?)),
-            CState::C1B(state) => Ok(replied(state.say(alloc, sealer, ring, draws, stamp)?)),
-            CState::C2A(state) => Ok(replied(state.say(alloc, sealer, ring, draws, stamp)?)),
-            CState::C2B(state) => Ok(replied(state.say(alloc, sealer, ring, draws, stamp)?)),
-            CState::C3A(state) => Ok(replied(state.say(alloc, sealer, ring, draws, stamp)?)),
-            CState::C3B(state) => Ok(replied(state.say(alloc, sealer, ring, draws, stamp)?)),
-            CState::C4A(state) => Ok(replied(state.say(alloc, sealer, ring, draws, stamp)?)),
-            CState::C4B(state) => Ok(replied(state.say(alloc, sealer, ring, draws, stamp)?)),
-        }
+        each!(self, state => Ok(replied(state.speak(alloc, sealer, ring, draws, stamp)?)))
     }
 }

@@ -1,8 +1,8 @@
 -- Items by their places.
 use Rattle.std.proofs.Common.{◌≡◌, ℕ, zero, suc, ◌<◌, List, [], ◌∷◌, get_or, length, false, arith}
 use Rattle.term_values.specs.Trees.{Tree, tuple, none, tag}
-use Rattle.mech_rows.specs.Same.{same}
-use Rattle.mech_rows.proofs.SameTrees.{is_same}
+use Rattle.term_values.specs.Same.{same}
+use Rattle.term_values.proofs.SameTrees.{is_same}
 use Rattle.mech_rows.specs.Verdict.{at}
 
 pub at_is : (ts : List Tree) (k : ℕ) (x : Tree) → k < length ts → x ≡ get_or ts k x → x ≡ get_or ts k (tuple none)

@@ -3,3 +3,6 @@ pub mod Limits
 pub mod Stepped
 pub mod Texts
 pub mod Draws
+pub mod NoteLists
+pub mod Ordering
+pub mod Phases

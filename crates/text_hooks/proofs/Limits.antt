@@ -3,7 +3,8 @@ use Rattle.std.proofs.Common.{◌≡◌, ◌+◌, ◌*◌, ◌≤◌, ◌<◌, �
 use Rattle.std.proofs.lemmas.List.{append_assoc, take_more, map-append, length-map}
 use Rattle.term_values.specs.Trees.{Tree, trees, tuple, count_of, depth_of, greatest_depth}
 use Rattle.term_values.specs.Lengths.{length_of, lengths_of}
-use Rattle.tagged_codec.specs.Grammar.{Fits, AllFit, IsInLimits}
+use Rattle.term_values.specs.Limits.{Fits, AllFit}
+use Rattle.tagged_codec.specs.Grammar.{IsInLimits}
 use Rattle.tagged_codec.proofs.Grammar.{length_of_spelling}
 use Rattle.seal_trait.specs.Items.{IsItemOf}
 use Rattle.mech_rows.specs.Runs.{Opening}

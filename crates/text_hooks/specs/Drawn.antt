@@ -1,5 +1,5 @@
 -- What a run draws for what it says, and in which order.
-use Rattle.std.specs.Prelude.{◌≡◌, ◌≤◌, ◌+◌, ℕ, Bool, true, not, ◌&&◌, is_some, List, [], ◌∷◌, ◌++◌, Option, Some, None, IfSome, if◌then◌else◌}
+use Rattle.std.specs.Prelude.{◌≡◌, ◌≢◌, ◌≤◌, ◌+◌, ℕ, Bool, true, not, ◌&&◌, is_some, List, [], ◌∷◌, ◌++◌, length, Option, Some, None, Result, IfSome, IfErr, OnOk, if◌then◌else◌, false, ◌⊎◌}
 use Rattle.term_values.specs.Trees.{Bytes, Tree, nonce, stamp, part, tuple, none}
 use Rattle.term_values.specs.declared.small.Stamp.{Stamp}
 use Rattle.mech_rows.specs.declared.kinds.Kind.{Kind}
@@ -7,7 +7,11 @@ use Rattle.mech_rows.specs.declared.kinds.Kind.TheVariants.{Nonce as a_nonce, St
 use Rattle.mech_rows.specs.declared.kinds.Slot.{Slot}
 use Rattle.mech_rows.specs.Rows.{kind_of, Cover}
 use Rattle.mech_rows.specs.Runs.{Opening}
-use Rattle.mech_rows.specs.Verdict.{Noted}
+use Rattle.mech_rows.specs.Verdict.{Noted, State}
+use Rattle.mech_rows.specs.Replies.{made_in, new_slots, next_pass}
+use Rattle.mech_rows.specs.declared.refusal.Refusal.{Refusal}
+use Rattle.mech_rows.specs.declared.refusal.Refusal.TheVariants.{Memory, WrongPass, DrawFault}
+use Rattle.outside.specs.Causes.{Rose}
 use Rattle.outside.specs.Told.{Told, nonce_draw, part_draw, next_draw}
 
 -- the stamp that was issued
@@ -53,3 +57,25 @@ DrawsAre iv_of wants old new issued ss cs before after sealed = IfSome old (λ t
 -- where draws are told: they still are, and have moved on by at most so many
 abbrev pub MovedOn : ℕ → Option Told → Option Told → Type 0
 MovedOn most old new = IfSome old (λ t. (is_some new ≡ true) × IfSome new (λ u. (u.value ≡ t.value) × (t.place ≤ u.place) × (u.place ≤ t.place + most)))
+
+-- the draws of what the one run says next, which leads to the other
+abbrev pub DrawnFor : (Tree → Option Bytes) → Bool → Option Told → Option Told → Option Stamp → State → State → List Opening → Type 0
+DrawnFor iv_of wants old new issued s t sealed = DrawsAre iv_of wants old new issued (new_slots s) (made_in (next_pass s).covers) s.notes t.notes sealed
+
+-- where draws are told: they still are, and have moved on by at most what the run says next
+abbrev pub MovedFor : State → Option Told → Option Told → Type 0
+MovedFor s old new = MovedOn (length (new_slots s) + length (made_in (next_pass s).covers)) old new
+
+-- what a call that draws tells of the count of faults: it never falls, and stays where the call succeeds or only memory was wanting; else a draw failed, and it rose
+pub record HasDrawCause {T : Type 0} (before now : ℕ) (result : Result T Refusal) : Type 0 where
+  pub later : before ≤ now
+  pub quiet : OnOk result (now ≡ before)
+  pub memory : IfErr result (λ e. e ≡ Memory → now ≡ before)
+  pub failed : IfErr result (λ e. e ≢ Memory → (e ≡ DrawFault) × Rose before now)
+
+-- the same of a call that says a message where the role sends one: WrongPass comes too, where it doesn't
+pub record HasSayCause {T : Type 0} (is_sent : Bool) (before now : ℕ) (result : Result T Refusal) : Type 0 where
+  pub later : before ≤ now
+  pub quiet : OnOk result (now ≡ before)
+  pub memory : IfErr result (λ e. e ≡ Memory → now ≡ before)
+  pub failed : IfErr result (λ e. e ≢ Memory → ((is_sent ≡ false) × (e ≡ WrongPass)) ⊎ ((e ≡ DrawFault) × Rose before now))

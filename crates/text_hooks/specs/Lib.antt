@@ -2,3 +2,9 @@ pub mod Rules
 pub mod Drawn
 pub mod Parts
 pub mod Refused
+pub mod Names
+pub mod Phases
+pub mod Leading
+pub mod Judged
+pub mod Shown
+pub mod Known

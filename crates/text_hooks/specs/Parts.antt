@@ -2,7 +2,7 @@
 use Rattle.std.specs.Prelude.{ℕ, ◌≤◌, List, [], ◌∷◌, ◌++◌, map, Option, Some, None}
 use Rattle.term_values.specs.Trees.{Bytes, Tree, name, nonce, stamp, part, text, tag, tuple, trees, depth_of}
 use Rattle.term_values.specs.Lengths.{length_of}
-use Rattle.tagged_codec.specs.Grammar.{Fits}
+use Rattle.term_values.specs.Limits.{Fits}
 use Rattle.seal_trait.specs.Items.{IsShort}
 use Rattle.mech_rows.specs.Runs.{Opening}
 use Rattle.text_hooks.specs.declared.making.SlotValue.{SlotValue}

@@ -1,32 +1,52 @@
 //! Rules on the texts that a node takes, and what the steps of all mechanisms share.
 #![tactic(auto)]
 
+mod bodies;
+mod delivery;
+mod growing;
 mod hook;
+mod known;
 mod making;
-mod noting;
+mod names;
+mod note_list;
 mod openings;
+mod order;
 mod own_texts;
+mod phase;
 mod reading;
 mod role_state;
 mod rule;
 mod saying;
 mod sealing;
+mod shown;
 mod steps;
-mod taking;
 mod values;
 
+pub use bodies::{one_value, two_nonces, two_values};
+pub use delivery::Delivery;
+pub use growing::{asked, grown, grown_and_judged, grown_by, judged_by, read_by, said_still};
 pub use hook::{Hook, Judgement};
+pub use known::{Asked, Challenged, Challenging, Sent, Stamped};
 pub use making::{
     SlotValue, body_of, message_of, name_term, nonce_term, stamp_term, tag_term, text_term,
 };
-pub use noting::noted;
-pub use openings::{key_between, one_opening, one_stamp, open_item, test_item};
+pub use names::{Pair, Three};
+pub use note_list::{NoteList, Shown, add};
+pub use openings::{key_between, open_item, test_item};
+pub use order::in_slot_order;
 pub use own_texts::own_text;
+pub use phase::Phase;
 pub use reading::{item_at, read_body, read_message};
 pub use role_state::{Reply, RoleState, Taken};
 pub use rule::{Rule, judge_by};
-pub use saying::{Said, challenge, reply_with, say_checked, say_sealed};
-pub use sealing::{check_item, draw_nonce, seal_item};
+pub use saying::{Said, challenge, nonce_alone, say_checked, say_item, say_sealed};
+pub use sealing::{draw_nonce, draw_part};
+pub use shown::{
+    AnswerTexts, Challenge, ChallengeText, ChallengerTexts, CheckedToken, FirstTexts, SealedToken,
+    SecondTexts,
+};
 pub use steps::{compose, first, prepare};
-pub use taking::{judged_with, read_in, taken_with};
-pub use values::{compare_nonce, judge_text, nonce_at, stamp_at, take_text, text_at};
+pub use values::{
+    compare_nonce, compare_stamp, key_at, nonce_at, part_at, stamp_at, take_text, take_texts,
+    take_token, text_at,
+};

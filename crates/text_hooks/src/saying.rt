@@ -1,16 +1,15 @@
 ghost use Rattle.std.specs.Prelude.{◌≡◌, ◌≢◌, ◌≤◌, ◌∷◌, ◌++◌, [], true, Some, IfOk, IfErr, IfSome, if◌then◌else◌, length};
 ghost use Rattle.term_values.specs.Trees.{tuple, trees, tag, nonce, text};
 ghost use Rattle.tagged_codec.specs.Grammar.{IsInLimits};
-ghost use Rattle.outside.specs.Causes.{Rose};
-ghost use Rattle.mech_rows.specs.declared.refusal.Refusal.TheVariants.{Memory, DrawFault};
+ghost use Rattle.mech_rows.specs.declared.refusal.Refusal.TheVariants.{Memory};
 ghost use Rattle.text_hooks.specs.Parts.{AreSmall, IsMadeItem, IsFlat, shown_value};
-ghost use Rattle.text_hooks.specs.Drawn.{MovedOn, NoncesAre};
+ghost use Rattle.text_hooks.specs.Drawn.{HasDrawCause, MovedOn, NoncesAre};
+ghost use Rattle.mech_rows.specs.Replies.{first_item};
 
 use crate::making::{SlotValue, message_of, nonce_term, tag_term, text_term, tuple_of, value_term};
 use crate::openings::one_opening;
-use crate::role_state::Reply;
 use crate::sealing::{check_item, seal_item};
-use mech_rows::{Opening, Refusal, Stated};
+use mech_rows::{Opening, Refusal};
 use outside::Draws;
 use seal_trait::Sealer;
 use std::alloc::Global;
@@ -49,7 +48,7 @@ fn with_item(alloc: Global, shown: Vec<Term>, item: Opening) -> Result<Said, Ref
 ///
 /// # Errors
 ///
-/// `DrawFault`, only where the count of faults rose in this call; want of memory.
+/// `DrawFault` where a draw failed, and the count of faults rose; want of memory, where it stayed.
 pub fn say_sealed<S: Sealer, D: Draws>(
     alloc: Global,
     sealer: &S,
@@ -63,10 +62,10 @@ pub fn say_sealed<S: Sealer, D: Draws>(
     ensures sealed { IfOk result (λ s. (S.opens key s.item.item ≡ Some body) × (s.item.key ≡ key) × (s.item.body ≡ body)) }
     ensures message { IfOk result (λ s. s.message ≡ tuple (trees (tag head ∷ text clear.now ∷ s.item.item ∷ []))) }
     ensures limits { IfOk result (λ s. IsInLimits s.message) }
-    ensures nonces { IfOk result (λ s. IfSome (D.told draws.old) (λ t. NoncesAre S.iv_of t (if S.wants_iv sealer.now then s.item ∷ [] else []) (D.told draws.new))) }
+    ensures nonces { IfOk result (λ s. IfSome (D.told draws.old) (λ t.
+        NoncesAre S.iv_of t (if S.wants_iv sealer.now then s.item ∷ [] else []) (D.told draws.new))) }
     ensures moved { MovedOn 1 (D.told draws.old) (D.told draws.new) }
-    ensures later { D.fault_count draws.old ≤ D.fault_count draws.new }
-    ensures refused { IfErr result (λ e. e ≢ Memory → (e ≡ DrawFault) × Rose (D.fault_count draws.old) (D.fault_count draws.new)) }
+    ensures cause { HasDrawCause (D.fault_count draws.old) (D.fault_count draws.new) result }
 {
     let item = seal_item(alloc, sealer, draws, key, body)?;
     let shown = vec![in alloc; tag_term(head), text_term(alloc, clear)?]?;
@@ -136,22 +135,46 @@ pub fn challenge(alloc: Global, head: Tag, fresh: &Nonce, clear: &Text) -> Resul
     message_of(alloc, shown, &[])
 }
 
-/// The reply that leads to this state and says one message.
+/// The message of a tag and an item, which seals the body under the key.
+///
+/// # Errors
+///
+/// `DrawFault` where a draw failed, and the count of faults rose; want of memory, where it stayed.
+pub fn say_item<S: Sealer, D: Draws>(
+    alloc: Global,
+    sealer: &S,
+    draws: &mut D,
+    key: Key,
+    body: Term,
+    head: Tag,
+) -> Result<(Term, Vec<Opening>), Refusal>
+    requires flat { IsFlat body }
+    ensures sealed { IfOk result (λ s. s.1.items ≡ record { key = key; item = first_item s.1.items; body = body } ∷ []) }
+    ensures opens { IfOk result (λ s. S.opens key (first_item s.1.items) ≡ Some body) }
+    ensures message { IfOk result (λ s. s.0 ≡ tuple (trees (tag head ∷ first_item s.1.items ∷ []))) }
+    ensures limits { IfOk result (λ s. IsInLimits s.0) }
+    ensures nonces { IfOk result (λ s. IfSome (D.told draws.old) (λ t.
+        NoncesAre S.iv_of t (if S.wants_iv sealer.now then s.1.items else []) (D.told draws.new))) }
+    ensures moved { MovedOn 1 (D.told draws.old) (D.told draws.new) }
+    ensures cause { HasDrawCause (D.fault_count draws.old) (D.fault_count draws.new) result }
+{
+    let item = seal_item(alloc, sealer, draws, key, body)?;
+    let shown = vec![in alloc; tag_term(head)]?;
+    let sealed = one_opening(alloc, item)?;
+    let message = message_of(alloc, shown, sealed.as_slice())?;
+    Ok((message, sealed))
+}
+
+/// The message of a tag and a nonce.
 ///
 /// # Errors
 ///
 /// Want of memory alone.
-pub fn reply_with<T: Stated>(alloc: Global, after: T, said: Said) -> Result<Reply<T>, Refusal>
-    ensures after { IfOk result (λ r. T.state_of r.after ≡ T.state_of after) }
-    ensures message { IfOk result (λ r. r.message ≡ said.message) }
-    ensures sealed { IfOk result (λ r. r.sealed.items ≡ said.item ∷ []) }
+pub fn nonce_alone(alloc: Global, head: Tag, fresh: &Nonce) -> Result<Term, Refusal>
+    ensures message { IfOk result (λ t. t ≡ tuple (trees (tag head ∷ nonce fresh.now ∷ []))) }
+    ensures limits { IfOk result IsInLimits }
     ensures memory { IfErr result (λ e. e ≡ Memory) }
 {
-    let Said { message, item } = said;
-    let sealed = one_opening(alloc, item)?;
-    Ok(Reply {
-        after,
-        message,
-        sealed,
-    })
+    let shown = vec![in alloc; tag_term(head), nonce_term(fresh)]?;
+    message_of(alloc, shown, &[])
 }

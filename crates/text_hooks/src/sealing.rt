@@ -1,27 +1,26 @@
-ghost use Rattle.std.specs.Prelude.{◌≡◌, ◌≢◌, ◌≤◌, ◌∷◌, [], true, false, Some, None, IfOk, IfErr, OnErr, IfSome, is_some, if◌then◌else◌};
-ghost use Rattle.outside.specs.Causes.{Rose};
-ghost use Rattle.outside.specs.Told.{nonce_draw, next_draw};
-ghost use Rattle.mech_rows.specs.declared.refusal.Refusal.TheVariants.{Memory, DrawFault};
+ghost use Rattle.std.specs.Prelude.{◌≡◌, ◌≢◌, ◌≤◌, ◌∷◌, [], true, false, Some, None, IfOk, IfErr, OnErr, OnOk, IfSome, is_some, if◌then◌else◌};
+ghost use Rattle.outside.specs.Told.{nonce_draw, part_draw, next_draw};
+ghost use Rattle.mech_rows.specs.declared.refusal.Refusal.TheVariants.{Memory};
 ghost use Rattle.text_hooks.specs.Parts.{IsFlat, IsMadeItem};
-ghost use Rattle.text_hooks.specs.Drawn.{MovedOn, NoncesAre};
+ghost use Rattle.text_hooks.specs.Drawn.{HasDrawCause, MovedOn, NoncesAre};
 
 use mech_rows::{Opening, Refusal};
 use outside::Draws;
 use seal_trait::Sealer;
 use std::alloc::Global;
-use term_values::{Key, Nonce, Term};
+use term_values::{Key, Nonce, Part, Term};
 
 /// The next nonce of the draws.
 ///
 /// # Errors
 ///
-/// `DrawFault`, only where the count of faults rose in this call; the draws stay.
+/// `DrawFault`, and the count of faults rose; the draws stay.
 pub fn draw_nonce<D: Draws>(draws: &mut D) -> Result<Nonce, Refusal>
-    ensures drawn { IfOk result (λ n. IfSome (D.told draws.old) (λ t. (n ≡ t.value nonce_draw t.place) × (D.told draws.new ≡ Some (next_draw t)))) }
+    ensures drawn { IfOk result (λ n. IfSome (D.told draws.old) (λ t.
+        (n ≡ t.value nonce_draw t.place) × (D.told draws.new ≡ Some (next_draw t)))) }
     ensures moved { MovedOn 1 (D.told draws.old) (D.told draws.new) }
     ensures stays { OnErr result (D.told draws.new ≡ D.told draws.old) }
-    ensures later { D.fault_count draws.old ≤ D.fault_count draws.new }
-    ensures refused { IfErr result (λ e. (e ≡ DrawFault) × Rose (D.fault_count draws.old) (D.fault_count draws.new)) }
+    ensures cause { HasDrawCause (D.fault_count draws.old) (D.fault_count draws.new) result }
 {
     match draws.nonce() {
         Ok(nonce) => Ok(nonce),
@@ -29,15 +28,33 @@ pub fn draw_nonce<D: Draws>(draws: &mut D) -> Result<Nonce, Refusal>
     }
 }
 
+/// The next part of the draws.
+///
+/// # Errors
+///
+/// `DrawFault`, and the count of faults rose; the draws stay.
+pub fn draw_part<D: Draws>(draws: &mut D) -> Result<Part, Refusal>
+    ensures drawn { IfOk result (λ n. IfSome (D.told draws.old) (λ t.
+        (n ≡ t.value part_draw t.place) × (D.told draws.new ≡ Some (next_draw t)))) }
+    ensures moved { MovedOn 1 (D.told draws.old) (D.told draws.new) }
+    ensures stays { OnErr result (D.told draws.new ≡ D.told draws.old) }
+    ensures cause { HasDrawCause (D.fault_count draws.old) (D.fault_count draws.new) result }
+{
+    match draws.part() {
+        Ok(part) => Ok(part),
+        Err(_) => Err(Refusal::DrawFault),
+    }
+}
+
 /// A nonce for a seal, where the sealer wants one.
 fn draw_iv<S: Sealer, D: Draws>(sealer: &S, draws: &mut D) -> Result<Option<Nonce>, Refusal>
     ensures given { IfOk result (λ iv. is_some iv ≡ S.wants_iv sealer.now) }
-    ensures drawn { IfOk result (λ iv. IfSome (D.told draws.old) (λ t. IfSome iv (λ n. (n ≡ t.value nonce_draw t.place) × (D.told draws.new ≡ Some (next_draw t))))) }
+    ensures drawn { IfOk result (λ iv. IfSome (D.told draws.old) (λ t. IfSome iv (λ n.
+        (n ≡ t.value nonce_draw t.place) × (D.told draws.new ≡ Some (next_draw t))))) }
     ensures kept { IfOk result (λ iv. iv ≡ None → D.told draws.new ≡ D.told draws.old) }
     ensures moved { MovedOn 1 (D.told draws.old) (D.told draws.new) }
     ensures stays { OnErr result (D.told draws.new ≡ D.told draws.old) }
-    ensures later { D.fault_count draws.old ≤ D.fault_count draws.new }
-    ensures refused { IfErr result (λ e. (e ≡ DrawFault) × Rose (D.fault_count draws.old) (D.fault_count draws.new)) }
+    ensures cause { HasDrawCause (D.fault_count draws.old) (D.fault_count draws.new) result }
 {
     if !sealer.wants_iv() {
         return Ok(None);
@@ -50,7 +67,7 @@ fn draw_iv<S: Sealer, D: Draws>(sealer: &S, draws: &mut D) -> Result<Option<Nonc
 ///
 /// # Errors
 ///
-/// `DrawFault`, only where the count of faults rose in this call; want of memory.
+/// `DrawFault` where a draw failed, and the count of faults rose; want of memory, where it stayed.
 #[tactic(auto, using(crate::proofs::Limits::made_item))]
 pub fn seal_item<S: Sealer, D: Draws>(
     alloc: Global,
@@ -62,10 +79,10 @@ pub fn seal_item<S: Sealer, D: Draws>(
     requires flat { IsFlat body }
     ensures sealed { IfOk result (λ o. (S.opens key o.item ≡ Some body) × (o.key ≡ key) × (o.body ≡ body)) }
     ensures made { IfOk result (λ o. IsMadeItem o.item) }
-    ensures nonces { IfOk result (λ o. IfSome (D.told draws.old) (λ t. NoncesAre S.iv_of t (if S.wants_iv sealer.now then o ∷ [] else []) (D.told draws.new))) }
+    ensures nonces { IfOk result (λ o. IfSome (D.told draws.old) (λ t.
+        NoncesAre S.iv_of t (if S.wants_iv sealer.now then o ∷ [] else []) (D.told draws.new))) }
     ensures moved { MovedOn 1 (D.told draws.old) (D.told draws.new) }
-    ensures later { D.fault_count draws.old ≤ D.fault_count draws.new }
-    ensures refused { IfErr result (λ e. e ≢ Memory → (e ≡ DrawFault) × Rose (D.fault_count draws.old) (D.fault_count draws.new)) }
+    ensures cause { HasDrawCause (D.fault_count draws.old) (D.fault_count draws.new) result }
 {
     let iv = draw_iv(sealer, draws)?;
     let item = sealer.seal(alloc, &key, &body, iv.as_ref())?;

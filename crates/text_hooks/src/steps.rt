@@ -1,4 +1,4 @@
-ghost use Rattle.std.specs.Prelude.{◌≡◌, ◌≢◌, ◌≤◌, ◌&&◌, ◌==◌, true, false, Some, None, Ok, Err, ℕ, suc, ◌⊎◌, [], IfOk, IfErr, IfSome, is_some, ◌+◌, length, MatchResult};
+ghost use Rattle.std.specs.Prelude.{◌≡◌, ◌≢◌, ◌≤◌, ◌&&◌, ◌==◌, true, false, Some, None, Ok, Err, ℕ, suc, ◌⊎◌, [], IfOk, IfErr, OnOk, IfSome, is_some, ◌+◌, length, MatchResult};
 ghost use Rattle.term_values.specs.declared.Why.{Why};
 ghost use Rattle.term_values.specs.Trees.{Tree};
 ghost use Rattle.tagged_codec.specs.Faults.{IsWholeFault};
@@ -29,6 +29,7 @@ use term_values::{Stamp, Term};
 /// The term that the bytes spell.
 fn read(alloc: Global, bytes: &[u8]) -> Result<Term, Refusal>
     ensures read { IfOk result (λ t. IsSpelling t bytes.now) }
+    ensures limits { IfOk result IsInLimits }
     ensures refused { IfErr result (λ e. e ≢ Memory → IsNoSpelling bytes.now e) }
     ensures again { (t : Tree) → IsSpelling t bytes.now → MatchResult result (λ u. u ≡ t) (λ e. e ≡ Memory) }
 {
@@ -98,7 +99,7 @@ pub fn prepare<T: RoleState, S: Sealer>(
 ///
 /// # Errors
 ///
-/// `DrawFault`, only where the count of faults rose in this call; want of memory.
+/// `DrawFault`, only where the count of faults rose in this call; want of memory, only where the count stayed.
 pub fn first<T: RoleState, S: Sealer, D: Draws>(
     state: &T,
     alloc: Global,
@@ -119,6 +120,8 @@ pub fn first<T: RoleState, S: Sealer, D: Draws>(
     ensures drawn { IfOk result (λ s. DrawsAre S.iv_of (S.wants_iv sealer.now) (D.told draws.old) (D.told draws.new) stamp (new_slots s.before) (made_in (next_pass s.before).covers) s.before.notes s.after.notes s.sealed) }
     ensures moved { MovedOn (length (new_slots (T.state_of state.now)) + length (made_in (next_pass (T.state_of state.now)).covers)) (D.told draws.old) (D.told draws.new) }
     ensures later { D.fault_count draws.old ≤ D.fault_count draws.new }
+    ensures quiet { OnOk result (D.fault_count draws.new ≡ D.fault_count draws.old) }
+    ensures memory { IfErr result (λ e. e ≡ Memory → D.fault_count draws.new ≡ D.fault_count draws.old) }
     ensures refused { IfErr result (λ e. e ≢ Memory → (e ≡ DrawFault) × Rose (D.fault_count draws.old) (D.fault_count draws.new)) }
 {
     let reply = state.say(alloc, sealer, ring, draws, stamp)?;
@@ -131,7 +134,7 @@ pub fn first<T: RoleState, S: Sealer, D: Draws>(
 ///
 /// # Errors
 ///
-/// `DrawFault`, only where the count of faults rose in this call; want of memory. What was prepared is given up then.
+/// `DrawFault`, only where the count of faults rose in this call; want of memory, only where the count stayed. What was prepared is given up then.
 #[tactic(auto, using(crate::proofs::Draws::not_moved))]
 pub fn compose<T: RoleState, S: Sealer, D: Draws>(
     prepared: Prepared<T>,
@@ -157,6 +160,8 @@ pub fn compose<T: RoleState, S: Sealer, D: Draws>(
     ensures silent { IfOk result (λ s. s.reply ≡ None → (s.after ≡ prepared.after) × (D.told draws.new ≡ D.told draws.old)) }
     ensures moved { MovedOn (length (new_slots prepared.after) + length (made_in (next_pass prepared.after).covers)) (D.told draws.old) (D.told draws.new) }
     ensures later { D.fault_count draws.old ≤ D.fault_count draws.new }
+    ensures quiet { OnOk result (D.fault_count draws.new ≡ D.fault_count draws.old) }
+    ensures memory { IfErr result (λ e. e ≡ Memory → D.fault_count draws.new ≡ D.fault_count draws.old) }
     ensures refused { IfErr result (λ e. e ≢ Memory → (e ≡ DrawFault) × Rose (D.fault_count draws.old) (D.fault_count draws.new)) }
 {
     if !prepared.after.sends() {

@@ -1,4 +1,4 @@
-use Rattle.mech_rows.proofs.SameTrees.{is_same}
+use Rattle.term_values.proofs.SameTrees.{is_same}
 use Rattle.text_hooks.proofs.reading.same_tag.Goals as goal
 
 pub returns : goal.returns

@@ -1,4 +1,4 @@
-use Rattle.mech_rows.proofs.SameTrees.{is_same}
+use Rattle.term_values.proofs.SameTrees.{is_same}
 use Rattle.text_hooks.proofs.values.same_nonce.Goals as goal
 
 pub returns : goal.returns
