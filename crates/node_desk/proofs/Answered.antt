@@ -9,14 +9,14 @@ use Rattle.mech_rows.specs.Rings.{Ring}
 use Rattle.mech_rows.specs.Runs.{Got}
 use Rattle.mech_rows.specs.Moves.{Move}
 use Rattle.node_desk.specs.declared.event.Event.{Event}
-use Rattle.node_desk.specs.declared.place.Place.{Place}
+use Rattle.node_desk.specs.declared.run_slot.RunSlot.{RunSlot}
 use Rattle.node_desk.specs.Helds.{Held, held_at, table_at}
 use Rattle.node_desk.specs.Refusals.{run_refusal, stamps_refusal, IsCurrent, AnswerIs, CommitAnswer, got_refusal}
 use Rattle.node_desk.specs.Desks.{node_of, IsKept}
 use Rattle.node_desk.proofs.Logs.{node_ring}
 use Rattle.node_desk.proofs.Stamped.{stamps-alike, stamps-not-memory}
 
-module _ (ring : Ring) (first : ℕ) (log : List Event) (issued : Issued) (now window : ℕ) (stands : List Accepted → Type 0) (places : List Place) (open_count room : ℕ) (kept : IsKept ring first log issued now window stands places open_count room) where
+module _ (ring : Ring) (first : ℕ) (log : List Event) (issued : Issued) (now window : ℕ) (stands : List Accepted → Type 0) (run_slots : List RunSlot) (open_count room : ℕ) (kept : IsKept ring first log issued now window stands run_slots open_count room) where
   -- what the store says of received stamps is what the node says
   pub got-is : (clock : ℕ) (got : List Got) → stamps_refusal window (max now clock) kept.node.accepted ring.kind got ≡ got_refusal (node_of ring first log) clock got
   got-is clock got =
@@ -26,7 +26,7 @@ module _ (ring : Ring) (first : ℕ) (log : List Event) (issued : Issued) (now w
       ∙ ap (λ (k : StampKind). stamps_refusal node.ring.window (max node.now clock) node.accepted k got) (sym (ap (λ (x : Ring). x.kind) (node_ring ring first log))))
 
   -- an answer by the table and the store is the node's
-  pub answer-is : (run clock : ℕ) (step : Move) (answer : Option Refusal) → CommitAnswer (table_at log places run) step (stamps_refusal window (max now clock) kept.node.accepted ring.kind step.got) answer → CommitAnswer (held_at log run) step (got_refusal (node_of ring first log) clock step.got) answer
+  pub answer-is : (run clock : ℕ) (step : Move) (answer : Option Refusal) → CommitAnswer (table_at log run_slots run) step (stamps_refusal window (max now clock) kept.node.accepted ring.kind step.got) answer → CommitAnswer (held_at log run) step (got_refusal (node_of ring first log) clock step.got) answer
   answer-is run clock step answer h =
       subst₂ (λ (held : Option Held) (stamps : Option Refusal). CommitAnswer held step stamps answer) (sym (kept.held.each run)) (got-is clock step.got) h
 
@@ -35,8 +35,8 @@ module _ (ring : Ring) (first : ℕ) (log : List Event) (issued : Issued) (now w
       subst (λ (o : Option Refusal). AnswerIs o held step stamps None) (sym (ap run_refusal current)) (inr (current, sym fit))
 
   -- where the step is current and its stamps are fit, nothing is refused
-  pub fit-is : (run clock : ℕ) (step : Move) → IsCurrent (table_at log places run) step → stamps_refusal window (max now clock) kept.node.accepted ring.kind step.got ≡ None → CommitAnswer (held_at log run) step (got_refusal (node_of ring first log) clock step.got) None
-  fit-is run clock step current fit = answer-is run clock step None (current-answer (table_at log places run) step _ current fit)
+  pub fit-is : (run clock : ℕ) (step : Move) → IsCurrent (table_at log run_slots run) step → stamps_refusal window (max now clock) kept.node.accepted ring.kind step.got ≡ None → CommitAnswer (held_at log run) step (got_refusal (node_of ring first log) clock step.got) None
+  fit-is run clock step current fit = answer-is run clock step None (current-answer (table_at log run_slots run) step _ current fit)
 
 run-not-memory : (held : Option Held) → run_refusal held ≡ Some Memory → ⊥
 run-not-memory None e = cc

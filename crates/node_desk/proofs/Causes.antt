@@ -23,7 +23,7 @@ use Rattle.mech_rows.specs.Heads.{Head}
 use Rattle.mech_rows.specs.Rings.{keys_in}
 use Rattle.mech_rows.specs.Replies.{receives, needs_stamp, run_verdict}
 use Rattle.mech_rows.specs.Runs.{Keys, Got, nth, value, body, key_under}
-use Rattle.mech_rows.specs.Same.{same}
+use Rattle.term_values.specs.Same.{same}
 use Rattle.mech_rows.specs.Verdict.{Noted, State, Taken, bind, at, items_of, are_clear, are_kept, clear_names, name_kinds, are_kinds, same_names, names_of, message_items, body_items, note_slot, note_slots, note_clear, taken_by, opened_part, tested_part, kept_part, judged_part, judged_parts, judged, joined, on_pass, verdict, unless, seens, read_slots, text_refusal, refused_text, text_bytes}
 use Rattle.text_hooks.specs.Refused.{IsNoSpelling}
 use Rattle.agreement_laws.specs.Nodes.{Node}
@@ -38,6 +38,11 @@ some-of P o e h is = subst (λ (x : Option Refusal). IfSome x P) is h
 
 err-of : {X : Type 0} (P : Refusal → Type 0) (r : Result X Refusal) (e : Refusal) → IfErr r P → r ≡ Err e → P e
 err-of {X} P r e h is = subst (λ (x : Result X Refusal). IfErr x P) is h
+
+-- what holds of each error holds of that of a result
+pub err-all : {X E : Type 0} (P : E → Type 0) (r : Result X E) → ((e : E) → P e) → IfErr r P
+err-all P (Ok x) h = tt
+err-all P (Err e) h = h e
 
 -- the verdict has six kinds of refusals
 module _ (P : Refusal → Type 0) (pass : P WrongPass) (unopened : (k : ℕ) → P (Unopened k)) (shape : (k : ℕ) → P (WrongShape k)) (named : (k : ℕ) → P (WrongNames k)) (valued : (k : ℕ) (s : Slot) → P (WrongValue k s)) (worded : (s : Slot) → P (TextRefused s)) where

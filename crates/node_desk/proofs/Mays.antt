@@ -1,12 +1,12 @@
 -- Where nothing is said against an opening, the run may be opened.
-use Rattle.std.proofs.Common.{◌≡◌, ◌<◌, ◌==◌, ℕ, Bool, true, false, not, ◌||◌, if◌then◌else◌, is_some, nat_le, Option, Some, None, refl, sym}
+use Rattle.std.proofs.Common.{◌≡◌, ◌≢◌, ◌<◌, ◌==◌, ℕ, Bool, true, false, not, ◌||◌, if◌then◌else◌, is_some, nat_le, Option, Some, None, refl, sym}
 use Rattle.std.proofs.lemmas.Bool.{eqb-false, leb-false}
 use Rattle.term_values.specs.Trees.{Among, Bytes}
 use Rattle.term_values.proofs.Lists.{all_among, and_left, and_right, implied}
 use Rattle.mech_rows.specs.declared.kinds.Role.{Role}
 use Rattle.mech_rows.specs.declared.kinds.Role.TheVariants.{A, B, P}
 use Rattle.mech_rows.specs.declared.refusal.Refusal.{Refusal}
-use Rattle.mech_rows.specs.declared.refusal.Refusal.TheVariants.{TableFull}
+use Rattle.mech_rows.specs.declared.refusal.Refusal.TheVariants.{Memory, NoKey, SelfPeer, TableFull, UnknownParty, WrongKind}
 use Rattle.mech_rows.specs.Rows.{has_third, pairs_of}
 use Rattle.mech_rows.specs.Rings.{Ring, keys_in}
 use Rattle.mech_rows.specs.Heads.{Head, name_of}
@@ -91,3 +91,20 @@ pub few-opened : (ring : Ring) (open_count opened : ℕ) (h : Head) → opening_
 few-opened ring open_count opened h e =
     let full = (no-some (is_full open_count opened) TableFull None (no-first (head_refusal ring h) _ e).1).0 in
     leb-false 4_294_967_295 opened (or-right (nat_le 1024 open_count) _ full)
+
+other-of : (b : Bool) (e : Refusal) (rest : Option Refusal) → e ≢ Memory → (rest ≡ Some Memory → ⊥) → (if b then Some e else rest) ≡ Some Memory → ⊥
+other-of true e rest other more is = other (let same : Some e ≡ Some Memory = is in cc)
+other-of false e rest other more is = more is
+
+first-other : (o rest : Option Refusal) → (o ≡ Some Memory → ⊥) → (rest ≡ Some Memory → ⊥) → first_of o rest ≡ Some Memory → ⊥
+first-other None rest first more is = more is
+first-other (Some e) rest first more is = first is
+
+-- no refusal of an opening is want of memory
+pub opening-other : (ring : Ring) (open_count opened : ℕ) (h : Head) → opening_by ring open_count opened h ≡ Some Memory → ⊥
+opening-other ring open_count opened h = first-other (head_refusal ring h) _
+    (other-of (not (are_known ring h)) UnknownParty _ (λ m. cc)
+    (other-of (have_wrong_kinds ring h) WrongKind _ (λ m. cc)
+    (other-of (h.a == h.b) SelfPeer _ (λ m. cc)
+    (other-of (not (has_parts ring h)) NoKey None (λ m. cc) (λ m. cc)))))
+    (other-of (is_full open_count opened) TableFull None (λ m. cc) (λ m. cc))

@@ -17,9 +17,9 @@ use Rattle.mech_rows.specs.Verdict.{run_of}
 use Rattle.agreement_laws.specs.Nodes.{Node, Log, open_among, opens_in, changed, Needs, NeedsOpen, NeedsIssue, NeedsCommit, NeedsDrop}
 use Rattle.node_desk.specs.declared.event.Event.{Event}
 use Rattle.node_desk.specs.declared.event.Event.TheVariants.{Open, Issue, Commit, Drop}
-use Rattle.node_desk.specs.declared.place.Place.{Place}
+use Rattle.node_desk.specs.declared.run_slot.RunSlot.{RunSlot}
 use Rattle.node_desk.specs.Events.{event_of, log_of}
-use Rattle.node_desk.specs.Helds.{Held, shown, shown_in, table_at, is_open_place, AreHeld}
+use Rattle.node_desk.specs.Helds.{Held, shown, shown_in, table_at, is_open_slot, AreHeld}
 use Rattle.node_desk.specs.Openings.{opening_by, opening_refusal}
 use Rattle.node_desk.specs.Refusals.{stamps_refusal, IsCurrent}
 use Rattle.node_desk.specs.Desks.{DeskView, node_of, IsStepEvent, HasStepped, IsUnused, IsNode}
@@ -29,32 +29,32 @@ use Rattle.node_desk.proofs.Mays.{may-open}
 use Rattle.node_desk.proofs.Stamped.{stamps-alike, each-fit}
 
 -- what is said against an opening by the table is what the node says
-pub opening-is : (ring : Ring) (first : ℕ) (log : List Event) (places : List Place) (open_count : ℕ) (head : Head) → AreHeld log places → open_count ≡ count_by is_open_place places
-    → opening_by ring open_count (length places) head ≡ opening_refusal (node_of ring first log) head
-opening-is ring first log places open_count head held o =
+pub opening-is : (ring : Ring) (first : ℕ) (log : List Event) (run_slots : List RunSlot) (open_count : ℕ) (head : Head) → AreHeld log run_slots → open_count ≡ count_by is_open_slot run_slots
+    → opening_by ring open_count (length run_slots) head ≡ opening_refusal (node_of ring first log) head
+opening-is ring first log run_slots open_count head held o =
     let node = node_of ring first log in
-    ap (λ (r : Ring). opening_by r open_count (length places) head) (sym (node_ring ring first log))
-    ∙ (ap (λ (n : ℕ). opening_by node.ring n (length places) head) (o ∙ sym (open-count ring first log places held))
-    ∙ ap (λ (n : ℕ). opening_by node.ring (open_among node.runs (opens_in node.log)) n head) (sym (opened-count ring first log places held)))
+    ap (λ (r : Ring). opening_by r open_count (length run_slots) head) (sym (node_ring ring first log))
+    ∙ (ap (λ (n : ℕ). opening_by node.ring n (length run_slots) head) (o ∙ sym (open-count ring first log run_slots held))
+    ∙ ap (λ (n : ℕ). opening_by node.ring (open_among node.runs (opens_in node.log)) n head) (sym (opened-count ring first log run_slots held)))
 
 -- the run of the node that the table shows
-run-shown : (ring : Ring) (first : ℕ) (log : List Event) (places : List Place) → AreHeld log places → (run : ℕ) (h : Held) → table_at log places run ≡ Some h → (node_of ring first log).runs run ≡ Some (record { run = run_of h.state; is_open = h.is_open })
-run-shown ring first log places held run h e = runs_are ring first log run ∙ ap standing (held.each run ∙ e)
+run-shown : (ring : Ring) (first : ℕ) (log : List Event) (run_slots : List RunSlot) → AreHeld log run_slots → (run : ℕ) (h : Held) → table_at log run_slots run ≡ Some h → (node_of ring first log).runs run ≡ Some (record { run = run_of h.state; is_open = h.is_open })
+run-shown ring first log run_slots held run h e = runs_are ring first log run ∙ ap standing (held.each run ∙ e)
 
 -- an open run that the table shows
-open-shown : (log : List Event) (places : List Place) (run at : ℕ) (old : Place) → suc at ≡ run → slice_get places at ≡ Some old → old.«open» ≡ true → table_at log places run ≡ Some (record { state = (shown_in log old).state; is_open = true })
-open-shown log places run at old r there o =
-    subst (λ (n : ℕ). table_at log places n ≡ Some (record { state = (shown_in log old).state; is_open = true })) r (ap (shown log) there ∙ ap (λ (b : Bool). Some (record { state = (shown_in log old).state; is_open = b })) o)
+open-shown : (log : List Event) (run_slots : List RunSlot) (run at : ℕ) (old : RunSlot) → suc at ≡ run → slice_get run_slots at ≡ Some old → old.«open» ≡ true → table_at log run_slots run ≡ Some (record { state = (shown_in log old).state; is_open = true })
+open-shown log run_slots run at old r there o =
+    subst (λ (n : ℕ). table_at log run_slots n ≡ Some (record { state = (shown_in log old).state; is_open = true })) r (ap (shown log) there ∙ ap (λ (b : Bool). Some (record { state = (shown_in log old).state; is_open = b })) o)
 
 -- an opening has what it needs
-pub needs-open : (ring : Ring) (first : ℕ) (log : List Event) (places : List Place) (open_count run : ℕ) (head : Head) → AreHeld log places → open_count ≡ count_by is_open_place places → IsHead head → me head ≡ ring.me → opening_by ring open_count (length places) head ≡ None → run ≡ length places + 1
+pub needs-open : (ring : Ring) (first : ℕ) (log : List Event) (run_slots : List RunSlot) (open_count run : ℕ) (head : Head) → AreHeld log run_slots → open_count ≡ count_by is_open_slot run_slots → IsHead head → me head ≡ ring.me → opening_by ring open_count (length run_slots) head ≡ None → run ≡ length run_slots + 1
     → NeedsOpen (node_of ring first log) run head
-needs-open ring first log places open_count run head held o is own none r =
+needs-open ring first log run_slots open_count run head held o is own none r =
     record {
-      number = let number : run ≡ suc (length places) = omega (arith, r) in number ∙ ap suc (sym (opened-count ring first log places held));
+      number = let number : run ≡ suc (length run_slots) = omega (arith, r) in number ∙ ap suc (sym (opened-count ring first log run_slots held));
       is_head = is;
       own = own ∙ ap (λ (x : Ring). x.me) (sym (node_ring ring first log));
-      may = may-open (node_of ring first log) head (sym (opening-is ring first log places open_count head held o) ∙ none);
+      may = may-open (node_of ring first log) head (sym (opening-is ring first log run_slots open_count head held o) ∙ none);
     }
 
 -- an issue has
@@ -66,14 +66,14 @@ needs-issue ring first log issued now window clock moment stands stamp node m s 
     }
 
 -- a commit has, over each sealing over which it is of a step
-pub needs-commit : (opens : Sealer) (ring : Ring) (first : ℕ) (log : List Event) (issued : Issued) (now window : ℕ) (stands : List Accepted → Type 0) (places : List Place) (run clock moment : ℕ) (step : Move) → IsNode (node_of ring first log) issued now window stands → AreHeld log places → IsUnused step.issued (log_of log) → IsCurrent (table_at log places run) step
+pub needs-commit : (opens : Sealer) (ring : Ring) (first : ℕ) (log : List Event) (issued : Issued) (now window : ℕ) (stands : List Accepted → Type 0) (run_slots : List RunSlot) (run clock moment : ℕ) (step : Move) → IsNode (node_of ring first log) issued now window stands → AreHeld log run_slots → IsUnused step.issued (log_of log) → IsCurrent (table_at log run_slots run) step
     → ((accepted : List Accepted) → stands accepted → stamps_refusal window (max now clock) accepted ring.kind step.got ≡ None) → moment ≡ max now clock → IsStep opens (keys_in ring) (step_of step)
     → NeedsCommit opens (node_of ring first log) run moment (step_of step)
-needs-commit opens ring first log issued now window stands places run clock moment step node held unused current fit m is_step =
+needs-commit opens ring first log issued now window stands run_slots run clock moment step node held unused current fit m is_step =
     let at = node_of ring first log in
     record {
       later = let t = node.moment in omega (arith, t, m);
-      is_open = run-shown ring first log places held run _ current;
+      is_open = run-shown ring first log run_slots held run _ current;
       is_step = subst (λ (r : Ring). IsStep opens (keys_in r) (step_of step)) (sym (node_ring ring first log)) is_step;
       fit = each-fit _ moment at.accepted _ step.got
           (ap (λ (k : StampKind). stamps_refusal at.ring.window moment at.accepted k step.got) (ap (λ (x : Ring). x.kind) (node_ring ring first log))
@@ -84,11 +84,11 @@ needs-commit opens ring first log issued now window stands places run clock mome
     }
 
 -- the end of an open run has
-pub needs-drop : (ring : Ring) (first : ℕ) (log : List Event) (places : List Place) (run at : ℕ) (old : Place) → AreHeld log places → at + 1 ≡ run → slice_get places at ≡ Some old → old.«open» ≡ true
+pub needs-drop : (ring : Ring) (first : ℕ) (log : List Event) (run_slots : List RunSlot) (run at : ℕ) (old : RunSlot) → AreHeld log run_slots → at + 1 ≡ run → slice_get run_slots at ≡ Some old → old.«open» ≡ true
     → NeedsDrop (node_of ring first log) run
-needs-drop ring first log places run at old held a there o =
+needs-drop ring first log run_slots run at old held a there o =
     let number : suc at ≡ run = omega (arith, a) in
-    record { last = _; is_open = run-shown ring first log places held run _ (open-shown log places run at old number there o) }
+    record { last = _; is_open = run-shown ring first log run_slots held run _ (open-shown log run_slots run at old number there o) }
 
 -- a desk with that log, whatever its room
 abbrev at_log : Ring → ℕ → List Event → DeskView
@@ -109,10 +109,10 @@ now-after : (ring : Ring) (first : ℕ) (log log' : List Event) (event : Event) 
 now-after ring first log log' event moment l is = ap (λ (x : List Event). (node_of ring first x).now) l ∙ (ap (λ (n : Node). n.now) (node_of-snoc ring first log event) ∙ is)
 
 -- a desk that opened a run
-pub steps-open : (ring : Ring) (first : ℕ) (log log' : List Event) (places : List Place) (open_count run : ℕ) (head : Head) (texts : Texts) → AreHeld log places → open_count ≡ count_by is_open_place places → log' ≡ log ++ Open run head texts ∷ [] → IsHead head → me head ≡ ring.me → opening_by ring open_count (length places) head ≡ None → run ≡ length places + 1
+pub steps-open : (ring : Ring) (first : ℕ) (log log' : List Event) (run_slots : List RunSlot) (open_count run : ℕ) (head : Head) (texts : Texts) → AreHeld log run_slots → open_count ≡ count_by is_open_slot run_slots → log' ≡ log ++ Open run head texts ∷ [] → IsHead head → me head ≡ ring.me → opening_by ring open_count (length run_slots) head ≡ None → run ≡ length run_slots + 1
     → HasStepped (at_log ring first log) (at_log ring first log') (Open run head texts)
-steps-open ring first log log' places open_count run head texts held o l is own none r =
-    stepped ring first log log' (Open run head texts) l (λ opens checks _. needs-open ring first log places open_count run head held o is own none r)
+steps-open ring first log log' run_slots open_count run head texts held o l is own none r =
+    stepped ring first log log' (Open run head texts) l (λ opens checks _. needs-open ring first log run_slots open_count run head held o is own none r)
 
 -- one that issued a stamp
 pub steps-issue : (ring : Ring) (first : ℕ) (log log' : List Event) (issued : Issued) (now window clock moment : ℕ) (stands : List Accepted → Type 0) (stamp : Stamp) → IsNode (node_of ring first log) issued now window stands → log' ≡ log ++ Issue moment stamp ∷ [] → moment ≡ max now clock → next_stamp issued.kind issued.last moment ≡ Some stamp
@@ -126,19 +126,19 @@ pub issued-at : (ring : Ring) (first : ℕ) (log log' : List Event) (issued : Is
 issued-at ring first log log' issued now window clock moment stands stamp node l m = now-after ring first log log' (Issue moment stamp) _ l (moment-is ring first log issued now window clock moment stands node m)
 
 -- one that committed a step
-pub steps-commit : (ring : Ring) (first : ℕ) (log log' : List Event) (issued : Issued) (now window : ℕ) (stands : List Accepted → Type 0) (places : List Place) (run clock moment : ℕ) (step : Move) → IsNode (node_of ring first log) issued now window stands → AreHeld log places → log' ≡ log ++ Commit run moment step ∷ [] → IsUnused step.issued (log_of log) → IsCurrent (table_at log places run) step
+pub steps-commit : (ring : Ring) (first : ℕ) (log log' : List Event) (issued : Issued) (now window : ℕ) (stands : List Accepted → Type 0) (run_slots : List RunSlot) (run clock moment : ℕ) (step : Move) → IsNode (node_of ring first log) issued now window stands → AreHeld log run_slots → log' ≡ log ++ Commit run moment step ∷ [] → IsUnused step.issued (log_of log) → IsCurrent (table_at log run_slots run) step
     → ((accepted : List Accepted) → stands accepted → stamps_refusal window (max now clock) accepted ring.kind step.got ≡ None) → moment ≡ max now clock
     → HasStepped (at_log ring first log) (at_log ring first log') (Commit run (max (node_of ring first log).now clock) step)
-steps-commit ring first log log' issued now window stands places run clock moment step node held l unused current fit m =
+steps-commit ring first log log' issued now window stands run_slots run clock moment step node held l unused current fit m =
     subst (λ (n : ℕ). HasStepped (at_log ring first log) (at_log ring first log') (Commit run n step)) (moment-is ring first log issued now window clock moment stands node m)
-    (stepped ring first log log' (Commit run moment step) l (λ opens checks is_step. needs-commit (tested_by opens checks) ring first log issued now window stands places run clock moment step node held unused current fit m is_step))
+    (stepped ring first log log' (Commit run moment step) l (λ opens checks is_step. needs-commit (tested_by opens checks) ring first log issued now window stands run_slots run clock moment step node held unused current fit m is_step))
 
 pub committed-at : (ring : Ring) (first : ℕ) (log log' : List Event) (issued : Issued) (now window : ℕ) (stands : List Accepted → Type 0) (run clock moment : ℕ) (step : Move) → IsNode (node_of ring first log) issued now window stands → log' ≡ log ++ Commit run moment step ∷ [] → moment ≡ max now clock
     → (node_of ring first log').now ≡ max (node_of ring first log).now clock
 committed-at ring first log log' issued now window stands run clock moment step node l m = now-after ring first log log' (Commit run moment step) _ l (moment-is ring first log issued now window clock moment stands node m)
 
 -- one that ended a run
-pub steps-drop : (ring : Ring) (first : ℕ) (log log' : List Event) (places : List Place) (run at : ℕ) (old : Place) → AreHeld log places → log' ≡ log ++ Drop run ∷ [] → at + 1 ≡ run → slice_get places at ≡ Some old → old.«open» ≡ true
+pub steps-drop : (ring : Ring) (first : ℕ) (log log' : List Event) (run_slots : List RunSlot) (run at : ℕ) (old : RunSlot) → AreHeld log run_slots → log' ≡ log ++ Drop run ∷ [] → at + 1 ≡ run → slice_get run_slots at ≡ Some old → old.«open» ≡ true
     → HasStepped (at_log ring first log) (at_log ring first log') (Drop run)
-steps-drop ring first log log' places run at old held l a there o =
-    stepped ring first log log' (Drop run) l (λ opens checks _. needs-drop ring first log places run at old held a there o)
+steps-drop ring first log log' run_slots run at old held l a there o =
+    stepped ring first log log' (Drop run) l (λ opens checks _. needs-drop ring first log run_slots run at old held a there o)

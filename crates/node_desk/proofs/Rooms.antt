@@ -16,3 +16,7 @@ room-commit s m s' r r' o o' l records takes fewer = omega (arith, l, records, t
 -- after a run was ended
 pub room-drop : (s r r' o o' : ℕ) → 0 < o → r ≡ r' + 1 → o' ≡ o - 1 → min (s / 2) (r' - o') ≡ min (s / 2) (r - o)
 room-drop s r r' o o' some takes fewer = omega (arith, some, takes, fewer)
+
+-- after more memory was taken
+pub room-grows : (s s' r r' o : ℕ) → s ≤ s' → r ≤ r' → min (s / 2) (r - o) ≤ min (s' / 2) (r' - o)
+room-grows s s' r r' o l grows = omega (arith, l, grows)

@@ -15,9 +15,9 @@ use Rattle.mech_rows.specs.Moves.{Move, step_of}
 use Rattle.agreement_laws.specs.Nodes.{Node, Log, new_node, node_after, IsLegal, NodeStep, WasIssued, WasUsed}
 use Rattle.node_desk.specs.declared.event.Event.{Event}
 use Rattle.node_desk.specs.declared.event.Event.TheVariants.{Open, Issue, Commit, Drop, Restart}
-use Rattle.node_desk.specs.declared.place.Place.{Place}
+use Rattle.node_desk.specs.declared.run_slot.RunSlot.{RunSlot}
 use Rattle.node_desk.specs.Events.{event_of, log_of}
-use Rattle.node_desk.specs.Helds.{Held, held_at, AreHeld, is_open_place}
+use Rattle.node_desk.specs.Helds.{Held, held_at, AreHeld, is_open_slot}
 use Rattle.node_desk.specs.Accepteds.{Alike}
 use Rattle.node_desk.specs.Refusals.{CommitAnswer, got_refusal}
 
@@ -130,12 +130,12 @@ abbrev pub HaveParts : Ring → List Event → Type 0
 HaveParts ring log = (n : ℕ) → HavePart ring (held_at log n)
 
 -- what a desk keeps: its log is legal and its commits are of steps with the ring's keys, its parts are those of the node, and each open run has room for its Drop
-pub record IsKept (ring : Ring) (first : ℕ) (log : List Event) (issued : Issued) (now window : ℕ) (stands_for : List Accepted → Type 0) (places : List Place) (open_count room : ℕ) : Type 0 where
+pub record IsKept (ring : Ring) (first : ℕ) (log : List Event) (issued : Issued) (now window : ℕ) (stands_for : List Accepted → Type 0) (run_slots : List RunSlot) (open_count room : ℕ) : Type 0 where
   pub whole : IsWholeLog ring first log
   pub made : AreMadeWith (keys_in ring) log
   pub node : IsNode (node_of ring first log) issued now window stands_for
   pub stamps : AreStamps (log_of log) issued.last
   pub parts : HaveParts ring log
-  pub held : AreHeld log places
-  pub open_is : open_count ≡ count_by is_open_place places
+  pub held : AreHeld log run_slots
+  pub open_is : open_count ≡ count_by is_open_slot run_slots
   pub room_is : open_count ≤ room

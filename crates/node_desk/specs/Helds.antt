@@ -5,7 +5,7 @@ use Rattle.mech_rows.specs.Openings.{opened_state}
 use Rattle.agreement_laws.specs.Nodes.{is_going, opens_in}
 use Rattle.node_desk.specs.declared.event.Event.{Event}
 use Rattle.node_desk.specs.declared.event.Event.TheVariants.{Open, Issue, Commit, Drop, Restart}
-use Rattle.node_desk.specs.declared.place.Place.{Place}
+use Rattle.node_desk.specs.declared.run_slot.RunSlot.{RunSlot}
 use Rattle.node_desk.specs.Events.{log_of}
 use Rattle.node_desk.specs.Lives.{live_state}
 
@@ -50,27 +50,27 @@ abbrev pub state_from : State → List Event → Option ℕ → State
 state_from start log None = start
 state_from start log (Some at) = after_some start (slice_get log at)
 
--- the run of a place: at its start, or after the commit at which it stands
-abbrev pub shown_in : List Event → Place → Held
-shown_in log place = record { state = state_from (live_state place.start) log place.at; is_open = place.«open» }
+-- the run of a slot of the table: at its start, or after the commit at which it stands
+abbrev pub shown_in : List Event → RunSlot → Held
+shown_in log run_slot = record { state = state_from (live_state run_slot.start) log run_slot.at; is_open = run_slot.«open» }
 
--- what is shown, where there is a place
-abbrev pub shown : List Event → Option Place → Option Held
+-- what is shown, where there is a slot
+abbrev pub shown : List Event → Option RunSlot → Option Held
 shown log None = None
-shown log (Some place) = Some (shown_in log place)
+shown log (Some run_slot) = Some (shown_in log run_slot)
 
--- the place of a run's number, which begin at 1
-abbrev pub place_at : List Place → ℕ → Option Place
-place_at places zero = None
-place_at places (suc k) = slice_get places k
+-- the slot of a run's number; numbers begin at 1
+abbrev pub run_slot_at : List RunSlot → ℕ → Option RunSlot
+run_slot_at run_slots zero = None
+run_slot_at run_slots (suc k) = slice_get run_slots k
 
 -- the run of a number in the table
-abbrev pub table_at : List Event → List Place → ℕ → Option Held
-table_at log places n = shown log (place_at places n)
+abbrev pub table_at : List Event → List RunSlot → ℕ → Option Held
+table_at log run_slots n = shown log (run_slot_at run_slots n)
 
--- the place is open
-abbrev pub is_open_place : Place → Bool
-is_open_place place = place.«open»
+-- the run of the slot is open
+abbrev pub is_open_slot : RunSlot → Bool
+is_open_slot run_slot = run_slot.«open»
 
 -- the commit stands within so many events
 abbrev pub IsWithin : ℕ → Option ℕ → Type 0
@@ -78,7 +78,7 @@ IsWithin n None = Unit {0}
 IsWithin n (Some at) = at < n
 
 -- the table is that of the runs of the log
-pub record AreHeld (log : List Event) (places : List Place) : Type 0 where
-  pub each : (n : ℕ) → held_at log n ≡ table_at log places n
-  pub within : (k : ℕ) (place : Place) → slice_get places k ≡ Some place → IsWithin (length log) place.at
-  pub count : opens_in (log_of log) ≡ length places
+pub record AreHeld (log : List Event) (run_slots : List RunSlot) : Type 0 where
+  pub each : (n : ℕ) → held_at log n ≡ table_at log run_slots n
+  pub within : (k : ℕ) (run_slot : RunSlot) → slice_get run_slots k ≡ Some run_slot → IsWithin (length log) run_slot.at
+  pub count : opens_in (log_of log) ≡ length run_slots

@@ -6,7 +6,7 @@ ghost use Rattle.node_desk.specs.Refusals.{CommitAnswer, IsCurrent, stamps_refus
 
 use crate::event::Event;
 use crate::live::Live;
-use crate::place::Place;
+use crate::run_slot::RunSlot;
 use crate::stamps::{judge_all, record_all};
 use crate::table::find_current;
 use mech_rows::{Outcome, Refusal, Ring, Step};
@@ -25,7 +25,7 @@ pub(crate) fn kind_of(ring: &Ring) -> StampKind
 
 /// Judges a commit, and answers the place of its run.
 pub(crate) fn check_commit<T: Store>(
-    places: &[Place],
+    run_slots: &[RunSlot],
     log: &[Event],
     store: &T,
     kind: StampKind,
@@ -34,20 +34,20 @@ pub(crate) fn check_commit<T: Store>(
     clock: u64,
 ) -> Result<usize, Refusal>
     ensures place { IfOk result (λ place. place + 1 ≡ run) }
-    ensures within { IfOk result (λ place. place < length places.now) }
-    ensures current { OnOk result (IsCurrent (table_at log.now places.now run) step.now) }
+    ensures within { IfOk result (λ place. place < length run_slots.now) }
+    ensures current { OnOk result (IsCurrent (table_at log.now run_slots.now run) step.now) }
     ensures fit { OnOk result ((accepted : List Accepted) → T.stands_for store.now accepted → stamps_refusal (T.window store.now) (max (T.now store.now) clock) accepted kind step.now.got ≡ None) }
-    ensures refused { IfErr result (λ e. (accepted : List Accepted) → T.stands_for store.now accepted → CommitAnswer (table_at log.now places.now run) step.now (stamps_refusal (T.window store.now) (max (T.now store.now) clock) accepted kind step.now.got) (Some e)) }
+    ensures refused { IfErr result (λ e. (accepted : List Accepted) → T.stands_for store.now accepted → CommitAnswer (table_at log.now run_slots.now run) step.now (stamps_refusal (T.window store.now) (max (T.now store.now) clock) accepted kind step.now.got) (Some e)) }
 {
-    let place = find_current(places, log, run, step)?;
+    let place = find_current(run_slots, log, run, step)?;
     match judge_all(store, clock, kind, &step.got) {
         Some(refusal) => Err(refusal),
         None => Ok(place),
     }
 }
 
-/// The refusal of what is given up.
-pub(crate) fn given_up<V: Drop>(_value: V, refusal: Refusal) -> Refusal
+/// The refusal, after what is given up for it is dropped. Takes no memory.
+pub fn given_up<V: Drop>(_value: V, refusal: Refusal) -> Refusal
     ensures { result ≡ refusal }
 {
     refusal

@@ -20,7 +20,12 @@ use std::alloc::Global;
 use term_values::{OutOfMemory, Term};
 use text_hooks::Hook;
 
-fn reply_of(alloc: Global, step: &Step<Live>) -> Result<Option<Term>, OutOfMemory>
+/// A copy of what a step says, where it says something.
+///
+/// # Errors
+///
+/// Want of memory alone.
+pub fn reply_of(alloc: Global, step: &Step<Live>) -> Result<Option<Term>, OutOfMemory>
     ensures equal { IfOk result (λ reply. reply ≡ step.now.reply) }
 {
     match &step.reply {
@@ -80,8 +85,8 @@ fn enter<T: Store>(
 /// `WrongShape`, `WrongNames`, `WrongValue`; `TextRefused`; `StampsSpent`; then the desk and the draws are as they were.
 /// `DrawFault`, only where the count of faults rose in this call; of each received stamp `WrongStampKind`, `Early`, `Late`,
 /// `Repeated`, `StoreFull`; then the desk has issued a stamp where one is needed. Want of memory may come at any place before
-/// the step is entered; the desk has then issued at most its next stamp, and only where the bytes fit and one is needed. The
-/// draws that were taken are not given back.
+/// the step is entered, and the count stays then; the desk has issued at most its next stamp, and only where the bytes fit and
+/// one is needed. The draws that were taken are not given back.
 pub fn deliver<T: Store, S: Sealer, D: Draws>(
     alloc: Global,
     desk: &mut Desk<T>,
@@ -101,6 +106,9 @@ pub fn deliver<T: Store, S: Sealer, D: Draws>(
     ensures judged { IfErr result (λ e. is_of_stamp e ≡ true → IsStampRefused S.opens S.checks (allowed hook.now.rules.items) S.iv_of (S.wants_iv sealer.now) (D.told draws.old) (D.told draws.new) desk.old desk.new run bytes.now clock e) }
     ensures moved { HasMovedDraws S.opens S.checks (allowed hook.now.rules.items) desk.old run bytes.now (D.told draws.old) (D.told draws.new) }
     ensures later { D.fault_count draws.old ≤ D.fault_count draws.new }
+    ensures quiet { OnOk result (D.fault_count draws.new ≡ D.fault_count draws.old) }
+    ensures memory { IfErr result (λ e. e ≡ Memory → D.fault_count draws.new ≡ D.fault_count draws.old) }
+    ensures unfailed { IfErr result (λ e. is_of_stamp e ≡ true → D.fault_count draws.new ≡ D.fault_count draws.old) }
     ensures issue_due { OnErr result (IssuedAtMost S.opens S.checks (allowed hook.now.rules.items) desk.old desk.new run bytes.now clock) }
 {
     let step = make_step(alloc, desk, sealer, hook, draws, run, bytes, clock)?;
@@ -114,9 +122,9 @@ pub fn deliver<T: Store, S: Sealer, D: Draws>(
 ///
 /// The first that holds: `UnknownRun`, `EndedRun`, `WrongPass` where the run doesn't say the first message now, `StampsSpent`;
 /// then the desk and the draws are as they were. `DrawFault`, only where the count of faults rose in this call; then the desk
-/// has issued a stamp where one is needed. Want of memory may come at any place before the step is entered; the desk has then
-/// issued at most its next stamp, and only where the run says the first message now and one is needed. The draws that were taken
-/// are not given back.
+/// has issued a stamp where one is needed. Want of memory may come at any place before the step is entered, and the count stays
+/// then; the desk has issued at most its next stamp, and only where the run says the first message now and one is needed. The
+/// draws that were taken are not given back.
 pub fn start<T: Store, S: Sealer, D: Draws>(
     alloc: Global,
     desk: &mut Desk<T>,
@@ -133,6 +141,8 @@ pub fn start<T: Store, S: Sealer, D: Draws>(
     ensures faulted { IfErr result (λ e. e ≡ DrawFault → HasIssuedFirst desk.old desk.new run clock) }
     ensures moved { HasMovedDrawsFirst desk.old run (D.told draws.old) (D.told draws.new) }
     ensures later { D.fault_count draws.old ≤ D.fault_count draws.new }
+    ensures quiet { OnOk result (D.fault_count draws.new ≡ D.fault_count draws.old) }
+    ensures memory { IfErr result (λ e. e ≡ Memory → D.fault_count draws.new ≡ D.fault_count draws.old) }
     ensures issue_due { OnErr result (IssuedAtMostFirst desk.old desk.new run clock) }
 {
     let step = make_first(alloc, desk, sealer, draws, run, clock)?;

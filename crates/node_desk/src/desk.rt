@@ -15,7 +15,7 @@ use crate::event::Event;
 use crate::live::Live;
 use crate::log::Log;
 use crate::openings::{copied, opening_refusal};
-use crate::place::Place;
+use crate::run_slot::RunSlot;
 use crate::suiting::{has_keys, is_unused, issued_by};
 use crate::table::{find, look_up};
 use fresh_values::Issuer;
@@ -38,7 +38,7 @@ pub struct Desk<T: Store> {
     first: u64,
     issuer: Issuer,
     store: T,
-    places: Vec<Place>,
+    run_slots: Vec<RunSlot>,
     running: usize,
     log: Log,
 }
@@ -60,7 +60,7 @@ impl<T: Store> Model for Desk<T> {
       spare = min (T.spare d.store / 2) (d.log.room - d.running);
     } };
 
-    ghost invariant = { λ d. IsKept d.ring d.first d.log.events d.issuer (T.now d.store) (T.window d.store) (T.stands_for d.store) d.places.items d.running d.log.room };
+    ghost invariant = { λ d. IsKept d.ring d.first d.log.events d.issuer (T.now d.store) (T.window d.store) (T.stands_for d.store) d.run_slots.items d.running d.log.room };
 }
 
 impl<T: Store> Desk<T> {
@@ -88,7 +88,7 @@ impl<T: Store> Desk<T> {
             first: issuer.last(),
             issuer,
             store,
-            places: Vec::new(alloc),
+            run_slots: Vec::new(alloc),
             running: 0,
             log: Log::new(alloc),
         }
@@ -116,42 +116,47 @@ impl<T: Store> Desk<T> {
     ///
     /// # Errors
     ///
-    /// `UnknownRun` and `EndedRun`, each exactly where it holds; want of memory.
+    /// `UnknownRun` and `EndedRun`, each exactly where it holds; want of memory, only where the run is open.
     pub fn look(&self, run: u32) -> Result<Live, Refusal>
         ensures state { IfOk result (λ state. run_at self.now run ≡ Some (record { state = live_state state; is_open = true })) }
         ensures parts { IfOk result (λ state. has_parts self.now.ring (live_state state).head ≡ true) }
         ensures refused { IfErr result (λ e. e ≢ Memory → run_refusal (run_at self.now run) ≡ Some e) }
+        ensures memory { IfErr result (λ e. e ≡ Memory → run_refusal (run_at self.now run) ≡ None) }
     {
-        let state = look_up(self.alloc, &self.places, self.log.list(), run)?;
+        let state = look_up(self.alloc, &self.run_slots, self.log.list(), run)?;
         Ok(state)
     }
 
-    /// Opens a run of the node's own name and answers its number, which is one more than the runs that were opened.
+    /// Opens a run of the node's own name and answers its number, which is one more than the runs that were opened. Takes the room of
+    /// two commits at most.
     ///
     /// # Errors
     ///
-    /// The first that holds of `UnknownParty`, `WrongKind`, `SelfPeer`, `NoKey` and `TableFull`; want of memory. Nothing
-    /// but the room may have changed then.
+    /// The first that holds of `UnknownParty`, `WrongKind`, `SelfPeer`, `NoKey` and `TableFull`; want of memory, only where none of
+    /// them holds. Nothing but the room may have changed then, and that only grows.
     pub fn open_run(&mut self, head: &RunHead, texts: &Texts) -> Result<u32, Refusal>
         requires own { me head.now ≡ self.old.ring.me }
         requires plays { plays_live head.now ≡ true }
         ensures ok { IfOk result (λ run. Entered self.old self.new (Open run head.now texts.now)) }
         ensures fit { OnOk result (opening_refused (node_at self.old) head.now ≡ None) }
         ensures refused { IfErr result (λ e. e ≢ Memory → opening_refused (node_at self.old) head.now ≡ Some e) }
+        ensures memory { IfErr result (λ e. e ≡ Memory → opening_refused (node_at self.old) head.now ≡ None) }
         ensures err { OnErr result (Untouched self.old self.new) }
+        ensures grows { OnErr result (self.old.spare ≤ self.new.spare) }
+        ensures spare { self.old.spare ≤ self.new.spare + 2 }
         ensures number { IfOk result (λ run. run ≡ opens_in (log_of self.old.log) + 1) }
         ensures steps { IfOk result (λ run. HasStepped self.old self.new (Open run head.now texts.now)) }
     {
-        let opened = self.places.as_slice().len();
+        let opened = self.run_slots.as_slice().len();
         if let Some(refusal) = opening_refusal(&self.ring, self.running, opened, head) {
             return Err(refusal);
         }
         let run = opened as u32 + 1;
         let own = copied(head);
         let sent = texts.copy(self.alloc)?;
-        self.places.reserve(1)?;
+        self.run_slots.reserve(1)?;
         self.log.reserve(self.running + 2)?;
-        self.places.push_reserved(Place {
+        self.run_slots.push_reserved(RunSlot {
             start: Live::begin(self.alloc, head, texts)?,
             at: None,
             open: true,
@@ -170,13 +175,14 @@ impl<T: Store> Desk<T> {
     ///
     /// # Errors
     ///
-    /// `StampsSpent` exactly where the last number was the greatest; want of memory. Nothing but the room may have changed
-    /// then, now neither.
+    /// `StampsSpent` exactly where the last number was the greatest; want of memory, only where it wasn't. Nothing but the room may
+    /// have changed then, now neither.
     pub fn issue(&mut self, clock: u64) -> Result<Stamp, Refusal>
         ensures ok { IfOk result (λ stamp. Entered self.old self.new (Issue (max (node_at self.old).now clock) stamp)) }
         ensures unused { IfOk result (λ stamp. IsUnused (Some stamp) (log_of self.new.log)) }
         ensures fit { OnOk result (issue_refusal (node_at self.old) ≡ None) }
         ensures refused { IfErr result (λ e. e ≢ Memory → issue_refusal (node_at self.old) ≡ Some e) }
+        ensures spent { IfErr result (λ e. e ≡ Memory → issue_refusal (node_at self.old) ≡ None) }
         ensures err { OnErr result (Untouched self.old self.new) }
         ensures stamp { IfOk result (λ stamp. due_stamp (node_at self.old) clock ≡ Some stamp) }
         ensures steps { IfOk result (λ stamp. HasStepped self.old self.new (Issue (max (node_at self.old).now clock) stamp)) }
@@ -199,9 +205,10 @@ impl<T: Store> Desk<T> {
     ///
     /// # Errors
     ///
-    /// Want of memory alone. Nothing but the room may have changed then.
+    /// Want of memory alone. Nothing but the room may have changed then; it is never less than before.
     pub fn ready(&mut self) -> Result<(), OutOfMemory>
         ensures room { OnOk result (0 < self.new.spare) }
+        ensures grows { self.old.spare ≤ self.new.spare }
         ensures kept { Untouched self.old self.new }
     {
         self.store.reserve(STAMP_LIMIT)?;
@@ -220,7 +227,7 @@ impl<T: Store> Desk<T> {
     {
         let kind = kind_of(&self.ring);
         let log = self.log.list();
-        check_commit(&self.places, log, &self.store, kind, run, step, clock)?;
+        check_commit(&self.run_slots, log, &self.store, kind, run, step, clock)?;
         Ok(())
     }
 
@@ -259,14 +266,14 @@ impl<T: Store> Desk<T> {
         let kind = kind_of(&self.ring);
         let log = self.log.list();
         let at = log.len();
-        let place = match check_commit(&self.places, log, &self.store, kind, run, &step, clock) {
+        let place = match check_commit(&self.run_slots, log, &self.store, kind, run, &step, clock) {
             Ok(place) => place,
             Err(refusal) => return Err(given_up(step, refusal)),
         };
         let going = is_going(&step);
         let now = self.store.tick(clock);
         record_step(&mut self.store, kind, &step);
-        self.places[place].advance(at, going);
+        self.run_slots[place].advance(at, going);
         self.running = running_after(self.running, going);
         self.log.push(Event::Commit { run, now, step });
         Ok(())
@@ -281,10 +288,10 @@ impl<T: Store> Desk<T> {
         ensures steps { OnTrue result (HasStepped self.old self.new (Drop run)) }
         ensures spare { self.new.spare ≡ self.old.spare }
     {
-        let Ok(place) = find(&self.places, self.log.list(), run) else {
+        let Ok(place) = find(&self.run_slots, self.log.list(), run) else {
             return false;
         };
-        self.places[place].open = false;
+        self.run_slots[place].open = false;
         self.running = running_after(self.running, false);
         self.log.push(Event::Drop { run });
         true

@@ -10,12 +10,13 @@ mod live;
 mod log;
 mod making;
 mod openings;
-mod place;
+mod run_slot;
 mod stamps;
 mod suiting;
 mod table;
 
-pub use delivery::{deliver, start};
+pub use commit::given_up;
+pub use delivery::{deliver, reply_of, start};
 pub use desk::Desk;
 pub use event::Event;
 pub use laws::desks_step_over_every_sealing;

@@ -1,13 +1,13 @@
 ghost use Rattle.node_desk.specs.Lives.{plays_live};
 
-use mech_rows::{Mech, Notes, Refusal, Ring, RunHead, Stated, Texts};
+use mech_rows::{Mech, Refusal, Ring, RunHead, Stated, Texts};
 use outside::Draws;
 use roles_9798_2::EState;
 use roles_9798_4::CState;
 use seal_trait::Sealer;
 use std::alloc::Global;
-use term_values::{OutOfMemory, Stamp, Term};
-use text_hooks::{Hook, Reply, RoleState, Taken};
+use term_values::{OutOfMemory, Stamp};
+use text_hooks::{Delivery, NoteList, Phase, Reply, RoleState, Taken};
 
 /// A state of a run that a node may have.
 #[derive(Drop)]
@@ -58,66 +58,24 @@ impl RoleState for Live {
         }
     }
 
-    fn notes(&self, alloc: Global) -> Result<Notes, OutOfMemory> {
+    fn note(&self, alloc: Global, notes: &mut NoteList) -> Result<(), OutOfMemory> {
         match self {
-            Live::E(state) => state.notes(alloc),
-            Live::C(state) => state.notes(alloc),
+            Live::E(state) => state.note(alloc, notes),
+            Live::C(state) => state.note(alloc, notes),
         }
     }
 
-    fn next(&self) -> u8 {
+    fn phase(&self) -> Phase {
         match self {
-            Live::E(state) => state.next(),
-            Live::C(state) => state.next(),
+            Live::E(state) => state.phase(),
+            Live::C(state) => state.phase(),
         }
     }
 
-    fn sends_first(&self) -> bool {
-        match self {
-            Live::E(state) => state.sends_first(),
-            Live::C(state) => state.sends_first(),
-        }
-    }
-
-    fn sends(&self) -> bool {
-        match self {
-            Live::E(state) => state.sends(),
-            Live::C(state) => state.sends(),
-        }
-    }
-
-    fn receives(&self) -> bool {
-        match self {
-            Live::E(state) => state.receives(),
-            Live::C(state) => state.receives(),
-        }
-    }
-
-    fn is_done(&self) -> bool {
-        match self {
-            Live::E(state) => state.is_done(),
-            Live::C(state) => state.is_done(),
-        }
-    }
-
-    fn needs_stamp(&self) -> bool {
-        match self {
-            Live::E(state) => state.needs_stamp(),
-            Live::C(state) => state.needs_stamp(),
-        }
-    }
-
-    fn take<S: Sealer>(
-        &self,
-        alloc: Global,
-        sealer: &S,
-        ring: &Ring,
-        hook: &Hook,
-        term: &Term,
-    ) -> Result<Taken<Live>, Refusal> {
+    fn read<S: Sealer>(&self, delivery: &Delivery<S>) -> Result<Taken<Live>, Refusal> {
         match self {
             Live::E(state) => {
-                let taken = state.take(alloc, sealer, ring, hook, term)?;
+                let taken = state.read(delivery)?;
                 Ok(Taken {
                     after: Live::E(taken.after),
                     opened: taken.opened,
@@ -125,7 +83,7 @@ impl RoleState for Live {
                 })
             }
             Live::C(state) => {
-                let taken = state.take(alloc, sealer, ring, hook, term)?;
+                let taken = state.read(delivery)?;
                 Ok(Taken {
                     after: Live::C(taken.after),
                     opened: taken.opened,
@@ -135,7 +93,7 @@ impl RoleState for Live {
         }
     }
 
-    fn say<S: Sealer, D: Draws>(
+    fn speak<S: Sealer, D: Draws>(
         &self,
         alloc: Global,
         sealer: &S,
@@ -145,7 +103,7 @@ impl RoleState for Live {
     ) -> Result<Reply<Live>, Refusal> {
         match self {
             Live::E(state) => {
-                let reply = state.say(alloc, sealer, ring, draws, stamp)?;
+                let reply = state.speak(alloc, sealer, ring, draws, stamp)?;
                 Ok(Reply {
                     after: Live::E(reply.after),
                     message: reply.message,
@@ -153,7 +111,7 @@ impl RoleState for Live {
                 })
             }
             Live::C(state) => {
-                let reply = state.say(alloc, sealer, ring, draws, stamp)?;
+                let reply = state.speak(alloc, sealer, ring, draws, stamp)?;
                 Ok(Reply {
                     after: Live::C(reply.after),
                     message: reply.message,

@@ -98,7 +98,7 @@ fn stamp_for<T: Store>(
     ensures err { OnErr result (Untouched desk.old desk.new) }
     ensures due { IfOk result (IsDue desk.old clock) }
 {
-    if !state.needs_stamp() {
+    if !state.stamps_now() {
         return Ok(None);
     }
     let stamp = desk.issue(clock)?;
@@ -131,8 +131,8 @@ fn stamp_after<T: Store>(
 /// The first that holds: `UnknownRun`, `EndedRun`, `Malformed`, `WrongPass`; of each part of the message `Unopened`,
 /// `WrongShape`, `WrongNames`, `WrongValue`; `TextRefused`; `StampsSpent`; then the desk and the draws are as they were.
 /// `DrawFault`, only where the count of faults rose in this call; then the desk has issued a stamp where one is needed. Want
-/// of memory may come at any place; the desk has then issued at most its next stamp, and only where the bytes fit and one is
-/// needed. The draws that were taken are not given back.
+/// of memory may come at any place, and the count stays then; the desk has issued at most its next stamp, and only where the
+/// bytes fit and one is needed. The draws that were taken are not given back.
 pub fn make_step<T: Store, S: Sealer, D: Draws>(
     alloc: Global,
     desk: &mut Desk<T>,
@@ -151,6 +151,8 @@ pub fn make_step<T: Store, S: Sealer, D: Draws>(
     ensures faulted { IfErr result (λ e. e ≡ DrawFault → HasIssued S.opens S.checks (allowed hook.now.rules.items) desk.old desk.new run bytes.now clock) }
     ensures moved { HasMovedDraws S.opens S.checks (allowed hook.now.rules.items) desk.old run bytes.now (D.told draws.old) (D.told draws.new) }
     ensures later { D.fault_count draws.old ≤ D.fault_count draws.new }
+    ensures quiet { OnOk result (D.fault_count draws.new ≡ D.fault_count draws.old) }
+    ensures memory { IfErr result (λ e. e ≡ Memory → D.fault_count draws.new ≡ D.fault_count draws.old) }
     ensures due { IfOk result (λ step. IsDue desk.old clock step.issued) }
     ensures issue_due { OnErr result (IssuedAtMost S.opens S.checks (allowed hook.now.rules.items) desk.old desk.new run bytes.now clock) }
 {
@@ -198,6 +200,8 @@ fn first_by<P: RoleState, S: Sealer, D: Draws>(
     ensures drawn { IfOk result (λ s. DrawsAre S.iv_of (S.wants_iv sealer.now) (D.told draws.old) (D.told draws.new) stamp (new_slots s.before) (made_in (next_pass s.before).covers) s.before.notes s.after.notes s.sealed) }
     ensures moved { MovedOn (most_drawn (P.state_of state)) (D.told draws.old) (D.told draws.new) }
     ensures later { D.fault_count draws.old ≤ D.fault_count draws.new }
+    ensures quiet { OnOk result (D.fault_count draws.new ≡ D.fault_count draws.old) }
+    ensures memory { IfErr result (λ e. e ≡ Memory → D.fault_count draws.new ≡ D.fault_count draws.old) }
     ensures refused { IfErr result (λ e. e ≢ Memory → (e ≡ DrawFault) × Rose (D.fault_count draws.old) (D.fault_count draws.new)) }
 {
     let step = first(&state, alloc, sealer, ring, draws, stamp)?;
@@ -211,8 +215,9 @@ fn first_by<P: RoleState, S: Sealer, D: Draws>(
 ///
 /// The first that holds: `UnknownRun`, `EndedRun`, `WrongPass` where the run doesn't say the first message now, `StampsSpent`;
 /// then the desk and the draws are as they were. `DrawFault`, only where the count of faults rose in this call; then the desk
-/// has issued a stamp where one is needed. Want of memory may come at any place; the desk has then issued at most its next stamp,
-/// and only where the run says the first message now and one is needed. The draws that were taken are not given back.
+/// has issued a stamp where one is needed. Want of memory may come at any place, and the count stays then; the desk has issued at
+/// most its next stamp, and only where the run says the first message now and one is needed. The draws that were taken are not
+/// given back.
 pub fn make_first<T: Store, S: Sealer, D: Draws>(
     alloc: Global,
     desk: &mut Desk<T>,
@@ -229,6 +234,8 @@ pub fn make_first<T: Store, S: Sealer, D: Draws>(
     ensures faulted { IfErr result (λ e. e ≡ DrawFault → HasIssuedFirst desk.old desk.new run clock) }
     ensures moved { HasMovedDrawsFirst desk.old run (D.told draws.old) (D.told draws.new) }
     ensures later { D.fault_count draws.old ≤ D.fault_count draws.new }
+    ensures quiet { OnOk result (D.fault_count draws.new ≡ D.fault_count draws.old) }
+    ensures memory { IfErr result (λ e. e ≡ Memory → D.fault_count draws.new ≡ D.fault_count draws.old) }
     ensures due { IfOk result (λ step. IsDue desk.old clock step.issued) }
     ensures issue_due { OnErr result (IssuedAtMostFirst desk.old desk.new run clock) }
 {

@@ -7,23 +7,24 @@ ghost use Rattle.node_desk.specs.Refusals.{CommitAnswer, IsCurrent, run_refusal}
 
 use crate::event::Event;
 use crate::live::Live;
-use crate::place::{Place, latest};
+use crate::run_slot::{RunSlot, latest};
 use mech_rows::{Refusal, Step};
 use std::alloc::Global;
 use text_hooks::RoleState;
 
 /// The place of an open run.
-pub(crate) fn find(places: &[Place], log: &[Event], run: u32) -> Result<usize, Refusal>
+pub(crate) fn find(run_slots: &[RunSlot], log: &[Event], run: u32) -> Result<usize, Refusal>
     ensures place { IfOk result (λ place. place + 1 ≡ run) }
-    ensures within { IfOk result (λ place. place < length places.now) }
-    ensures running { OnOk result (run_refusal (table_at log.now places.now run) ≡ None) }
-    ensures refused { IfErr result (λ e. run_refusal (table_at log.now places.now run) ≡ Some e) }
+    ensures within { IfOk result (λ place. place < length run_slots.now) }
+    ensures running { OnOk result (run_refusal (table_at log.now run_slots.now run) ≡ None) }
+    ensures refused { IfErr result (λ e. run_refusal (table_at log.now run_slots.now run) ≡ Some e) }
+    ensures memory { IfErr result (λ e. e ≢ Memory) }
 {
     let number = run as usize;
-    if number == 0 || number > places.len() {
+    if number == 0 || number > run_slots.len() {
         return Err(Refusal::UnknownRun);
     }
-    if !places[number - 1].open {
+    if !run_slots[number - 1].open {
         return Err(Refusal::EndedRun);
     }
     Ok(number - 1)
@@ -47,18 +48,18 @@ fn moved(state: &Live, step: &Step<Live>) -> Refusal
 
 /// The place of the open run with whose state the step begins.
 pub(crate) fn find_current(
-    places: &[Place],
+    run_slots: &[RunSlot],
     log: &[Event],
     run: u32,
     step: &Step<Live>,
 ) -> Result<usize, Refusal>
     ensures place { IfOk result (λ place. place + 1 ≡ run) }
-    ensures within { IfOk result (λ place. place < length places.now) }
-    ensures current { OnOk result (IsCurrent (table_at log.now places.now run) step.now) }
-    ensures refused { IfErr result (λ e. (stamps : Option RefusalOf) → CommitAnswer (table_at log.now places.now run) step.now stamps (Some e)) }
+    ensures within { IfOk result (λ place. place < length run_slots.now) }
+    ensures current { OnOk result (IsCurrent (table_at log.now run_slots.now run) step.now) }
+    ensures refused { IfErr result (λ e. (stamps : Option RefusalOf) → CommitAnswer (table_at log.now run_slots.now run) step.now stamps (Some e)) }
 {
-    let place = find(places, log, run)?;
-    let state = latest(&places[place], log);
+    let place = find(run_slots, log, run)?;
+    let state = latest(&run_slots[place], log);
     if !is_current(state, step) {
         return Err(moved(state, step));
     }
@@ -68,14 +69,15 @@ pub(crate) fn find_current(
 /// A copy of the state of an open run.
 pub(crate) fn look_up(
     alloc: Global,
-    places: &[Place],
+    run_slots: &[RunSlot],
     log: &[Event],
     run: u32,
 ) -> Result<Live, Refusal>
-    ensures state { IfOk result (λ state. table_at log.now places.now run ≡ Some (record { state = live_state state; is_open = true })) }
-    ensures refused { IfErr result (λ e. e ≢ Memory → run_refusal (table_at log.now places.now run) ≡ Some e) }
+    ensures state { IfOk result (λ state. table_at log.now run_slots.now run ≡ Some (record { state = live_state state; is_open = true })) }
+    ensures refused { IfErr result (λ e. e ≢ Memory → run_refusal (table_at log.now run_slots.now run) ≡ Some e) }
+    ensures memory { IfErr result (λ e. e ≡ Memory → run_refusal (table_at log.now run_slots.now run) ≡ None) }
 {
-    let place = find(places, log, run)?;
-    let state = latest(&places[place], log);
+    let place = find(run_slots, log, run)?;
+    let state = latest(&run_slots[place], log);
     Ok(state.copy(alloc)?)
 }

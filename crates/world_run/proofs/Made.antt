@@ -1,14 +1,10 @@
 -- The step that a party made in its turn, as its desk tells it, in the words of the parties.
 use Rattle.std.proofs.Common.{◌≡◌, ◌≢◌, ◌⊎◌, ◌<◌, ◌≤◌, ◌+◌, ◌-◌, ◌^◌, ◌==◌, ℕ, suc, max, Bool, true, false, if◌then◌else◌, ◌&&◌, nat_lt, List, [], ◌∷◌, ◌++◌, length, get_or, set, map, drop, Option, Some, None, Result, Ok, Err, IfErr, IfOk, OnErr, is_some, IfSome, refl, sym, ap, subst, ◌∙◌, inl, inr, arith}
 use Rattle.std.proofs.lemmas.Bool.{ltb-true}
-use Rattle.std.proofs.lemmas.List.{append-nil}
-use Rattle.term_values.specs.declared.Why.{Why}
-use Rattle.term_values.specs.declared.Why.TheVariants.{Extra}
 use Rattle.term_values.specs.Trees.{Bytes, Tree}
 use Rattle.term_values.specs.declared.small.Stamp.{Stamp}
-use Rattle.tagged_codec.specs.Faults.{IsWholeFault}
 use Rattle.tagged_codec.specs.Grammar.{IsSpelling}
-use Rattle.tagged_codec.proofs.Places.{again_absent, again_found}
+use Rattle.tagged_codec.proofs.Whole.{no_whole_fault}
 use Rattle.tagged_codec.proofs.Terms.{one_form_is}
 use Rattle.outside.specs.Told.{Told}
 use Rattle.replay_store.specs.Stamps.{last_number, next_stamp}
@@ -51,15 +47,8 @@ use Rattle.world_run.proofs.Turned.{due_by, held_now, moment_now, node_now, spen
 
 -- ---- bytes that are a spelling
 
-no_fault : (m : Tree) (bytes : Bytes) (place : ℕ) (why : Why) → IsSpelling m bytes → IsWholeFault bytes place why → ⊥
-no_fault m bytes place Extra sp f =
-    let lt = f.0 in
-    let one = again_found bytes m bytes [] f.1 place sp (sym (append-nil bytes)) (omega (arith, lt)) f.2 in
-    let e = one.1 in omega (arith, lt, e)
-no_fault m bytes place why sp f = again_absent bytes m bytes [] place why sp (sym (append-nil bytes)) f
-
 no_spelling : (m : Tree) (bytes : Bytes) (e : Refusal) → IsSpelling m bytes → IsNoSpelling bytes e → ⊥
-no_spelling m bytes (Malformed place why) sp f = no_fault m bytes place why sp f
+no_spelling m bytes (Malformed place why) sp f = no_whole_fault bytes m place why sp f
 no_spelling m bytes e sp f = f
 
 -- bytes spell one term

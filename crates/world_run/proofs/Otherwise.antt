@@ -18,7 +18,7 @@ use Rattle.mech_rows.specs.Replies.{needs_stamp, receives, run_verdict, sends_fi
 use Rattle.mech_rows.specs.Rings.{Ring}
 use Rattle.mech_rows.specs.Rows.{Cover, Pass, kind_of, row_of, tag_of}
 use Rattle.mech_rows.specs.Runs.{Keys, body, key_under, nth, value}
-use Rattle.mech_rows.specs.Same.{same}
+use Rattle.term_values.specs.Same.{same}
 use Rattle.mech_rows.specs.Verdict.{Noted, State, Taken, are_clear, are_kept, are_kinds, at, bind, body_items, clear_names, items_of, joined, judged, judged_part, judged_parts, kept_part, message_items, name_kinds, names_of, note_clear, note_slot, note_slots, on_pass, opened_part, read_slots, refused_text, same_names, seens, taken_by, tested_part, text_bytes, text_refusal, unless, verdict}
 use Rattle.seal_symbolic.specs.Symbolic.{body_of, is_check}
 use Rattle.node_desk.specs.Deliveries.{spent_refusal}

@@ -19,12 +19,12 @@ use Rattle.mech_rows.specs.Openings.{is_text}
 use Rattle.mech_rows.specs.Replies.{all_slots, in_order, noted_among, with_slot}
 use Rattle.mech_rows.specs.Rows.{Pass, agreed_of, family, has_third, kind_of, number, row_of}
 use Rattle.mech_rows.specs.Runs.{IsDone, Notes, Run, Step, names, nth}
-use Rattle.mech_rows.specs.Same.{same}
+use Rattle.term_values.specs.Same.{same}
 use Rattle.mech_rows.specs.Verdict.{Noted, State}
 use Rattle.mech_rows.specs.Verdict as verdict
 use Rattle.mech_rows.proofs.Items.{SameParts, same_mech_is, same_parts}
 use Rattle.mech_rows.proofs.RowUse.{same_role_is, same_role_refl, same_slot_is}
-use Rattle.mech_rows.proofs.SameTrees.{same_is, same_refl}
+use Rattle.term_values.proofs.SameTrees.{same_is, same_refl}
 use Rattle.agreement_laws.specs.declared.history.Happened.{Happened}
 use Rattle.agreement_laws.specs.Configs.{AllDiffer, IsLawful, IsUnrevealed}
 use Rattle.agreement_laws.specs.Histories.{HistoryOf}

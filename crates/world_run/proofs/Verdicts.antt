@@ -19,7 +19,7 @@ use Rattle.mech_rows.specs.Moves.{Move, middle_of, or_else, seen_at, step_of}
 use Rattle.mech_rows.specs.Replies.{receives, sends, new_slots, run_verdict}
 use Rattle.mech_rows.specs.Rows.{Cover, Pass, row_of, tag_of}
 use Rattle.mech_rows.specs.Runs.{Keys, Notes, body, clear_slots, key_under, nth, seen_in, seen_slots}
-use Rattle.mech_rows.specs.Same.{same}
+use Rattle.term_values.specs.Same.{same}
 use Rattle.mech_rows.specs.Verdict.{Noted, State, Taken, at, bind, body_items, joined, judged, judged_part, judged_parts, kept_part, message_items, names_of, note_clear, note_slot, note_slots, on_pass, opened_part, read_slots, refused_text, run_of, seens, taken_by, tested_part, unless, verdict}
 use Rattle.mech_rows.proofs.Reading.{bind_ok, found_only, ok_is}
 use Rattle.mech_rows.proofs.RowUse.{same_slot_refl}

@@ -99,6 +99,13 @@ module _ (allowed : Mech → Slot → Bytes → Bool) where
   abbrev pub IsGiveLeft : WorldView → ℕ → Tree → WorldView → Type 0
   IsGiveLeft w run m v = (v ≡ w) ⊎ IsPartGiven w run m v
 
+-- nothing is said against a delivery that takes no memory to find: the term may be delivered, and there is a run of that number
+pub record MayBeGiven (w : WorldView) (run : ℕ) (m : Tree) : Type 0 where
+  pub derivable : Derivable (known_in w) m
+  pub is_born : HasUnborn w.draws m → ⊥
+  pub id : RunId
+  pub is_run : run_in w.runs run ≡ Some id
+
 -- the open run of that number was dropped
 pub record IsDropped (w : WorldView) (run : ℕ) (v : WorldView) : Type 0 where
   pub running : number_refusal w run ≡ None

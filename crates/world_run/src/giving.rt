@@ -9,7 +9,7 @@ ghost use Rattle.node_desk.specs.Desks.{node_at};
 ghost use Rattle.node_desk.specs.Refusals.{got_refusal};
 ghost use Rattle.world_run.specs.Born.{HasUnborn};
 ghost use Rattle.world_run.specs.Clocks.{clock_in};
-ghost use Rattle.world_run.specs.Gives.{Drops, HasTaken, IsGiven, IsGiveLeft, IsGiveRefused};
+ghost use Rattle.world_run.specs.Gives.{Drops, HasTaken, IsGiven, IsGiveLeft, IsGiveRefused, MayBeGiven};
 ghost use Rattle.world_run.specs.Kept.{IsEntered, IsKept, IsReady, view_of};
 ghost use Rattle.world_run.specs.Makings.{IsBrokenOff, IsMadeOf, IsUnanswered};
 ghost use Rattle.world_run.specs.Turns.{desk_in, HasGrown, HasNumbers};
@@ -19,10 +19,9 @@ use crate::born::has_unborn;
 use crate::given::Given;
 use crate::numbered::Numbered;
 use crate::scene::Scene;
-use crate::seating::given_up;
 use crate::telling::{Turn, hear, made_ready, retell};
 use mech_rows::{Refusal, Step};
-use node_desk::Live;
+use node_desk::{Live, given_up};
 use std::alloc::Global;
 use term_values::Term;
 use text_hooks::{Hook, RoleState};
@@ -42,6 +41,7 @@ fn check_term(scene: &Scene, term: &Term) -> Result<(), Refusal>
     ensures derivable { OnOk result (Derivable scene.now.knowledge.given term.now) }
     ensures is_born { OnOk result (HasUnborn scene.now.draws.place term.now → ⊥) }
     ensures refused { IfErr result (λ e. ((Derivable scene.now.knowledge.given term.now → ⊥) × (e ≡ NotDerivable)) ⊎ (Derivable scene.now.knowledge.given term.now × HasUnborn scene.now.draws.place term.now × (e ≡ Unborn))) }
+    ensures memory { IfErr result (λ e. e ≢ Memory) }
 {
     match scene.knowledge.derives(term) {
         Ok(true) => {}
@@ -126,7 +126,7 @@ fn answer(
 ///
 /// The first that holds: `NotDerivable`, `Unborn`, `UnknownRun`, `EndedRun`, `WrongPass`; of each part of the message `Unopened`,
 /// `WrongShape`, `WrongNames`, `WrongValue`; `TextRefused`; `StampsSpent`; of each received stamp `WrongStampKind`, `Early`, `Late`,
-/// `Repeated`, `StoreFull`. Want of memory.
+/// `Repeated`, `StoreFull`. Want of memory, only where the term may be delivered and there is a run of that number.
 pub(crate) fn give_in(
     alloc: Global,
     scene: &mut Scene,
@@ -141,6 +141,7 @@ pub(crate) fn give_in(
     ensures ok { IfOk result (λ g. IsGiven (allowed hook.now.rules.items) (view_of scene.old) run term.now g (view_of scene.new)) }
     ensures refused { IfErr result (λ e. e ≢ Memory → IsGiveRefused (allowed hook.now.rules.items) (view_of scene.old) run term.now e (view_of scene.new)) }
     ensures left { result ≡ Err Memory → IsGiveLeft (allowed hook.now.rules.items) (view_of scene.old) run term.now (view_of scene.new) }
+    ensures memory { result ≡ Err Memory → MayBeGiven (view_of scene.old) run term.now }
     ensures grows { HasGrown (view_of scene.old) (view_of scene.new) }
 {
     check_term(scene, term)?;

@@ -20,10 +20,10 @@ ghost use Rattle.world_run.specs.Views.{held_in};
 
 use crate::config::Config;
 use crate::seat::Seat;
-use crate::seating::{events_of, given_up, has_name, note, place_of, see_legal};
+use crate::seating::{events_of, has_name, note, place_of, see_legal};
 use fresh_values::Counted;
 use mech_rows::{Refusal, RunHead, Step, Texts};
-use node_desk::{Live, make_first, make_step};
+use node_desk::{Live, given_up, make_first, make_step};
 use seal_symbolic::Symbolic;
 use std::alloc::Global;
 use std::marker::Model;

@@ -6,7 +6,6 @@ ghost use Rattle.world_run.specs.declared.seat.Seat.{Seat as SeatOf};
 ghost use Rattle.world_run.specs.Parties.{seat_name};
 
 use crate::seat::Seat;
-use mech_rows::Refusal;
 use term_values::Name;
 
 /// Whether a party has that name.
@@ -45,13 +44,6 @@ pub(crate) fn see_legal(seat: &Seat)
     ensures { IsLegalLog seat.now.desk.ring seat.now.desk.first seat.now.desk.log }
 {
     let _log = seat.desk.log();
-}
-
-/// The refusal of what is given up.
-pub(crate) fn given_up<V: Drop>(_value: V, refusal: Refusal) -> Refusal
-    ensures { result ≡ refusal }
-{
-    refusal
 }
 
 /// Notes the party's name where it has had more events than before.

@@ -8,7 +8,7 @@ ghost use Rattle.world_run.specs.Views.{is_over};
 use agreement_laws::Happened;
 use attacker_model::Knowledge;
 use mech_rows::{Notes, Step};
-use node_desk::Live;
+use node_desk::{Live, reply_of};
 use std::alloc::Global;
 use term_values::{OutOfMemory, Term};
 use text_hooks::RoleState;
@@ -19,15 +19,6 @@ pub(crate) struct Turn {
     pub reply: Option<Term>,
     pub notes: Notes,
     pub done: bool,
-}
-
-fn reply_of(alloc: Global, step: &Step<Live>) -> Result<Option<Term>, OutOfMemory>
-    ensures equal { IfOk result (λ reply. reply ≡ step.now.reply) }
-{
-    match &step.reply {
-        Some(reply) => Ok(Some(reply.copy(alloc)?)),
-        None => Ok(None),
-    }
 }
 
 /// What is told of a step.

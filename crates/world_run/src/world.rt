@@ -61,7 +61,7 @@ impl World {
     ghost use Rattle.agreement_laws.specs.Traces.{known_before};
     ghost use Rattle.agreement_laws.specs.Worlds.{IsWorld, trace};
     ghost use Rattle.world_run.specs.Clocks.{Raises};
-    ghost use Rattle.world_run.specs.Gives.{Drops, IsGiven, IsGiveLeft, IsGiveRefused};
+    ghost use Rattle.world_run.specs.Gives.{Drops, IsGiven, IsGiveLeft, IsGiveRefused, MayBeGiven};
     ghost use Rattle.world_run.specs.Kept.{IsGenuine};
     ghost use Rattle.world_run.specs.Opens.{IsOpened, IsOpenLeft, IsOpenRefused};
     ghost use Rattle.world_run.specs.Turns.{HasGrown, HasNumbers};
@@ -181,13 +181,15 @@ impl World {
     /// The first that holds: `NotDerivable`, `Unborn`, `UnknownRun`, `EndedRun`, `WrongPass`; of each part of the message `Unopened`,
     /// `WrongShape`, `WrongNames`, `WrongValue`; `TextRefused`; `StampsSpent`; nothing has changed then. Of each received stamp
     /// `WrongStampKind`, `Early`, `Late`, `Repeated`, `StoreFull`; the party has issued the stamp of its reply then, and drawn the
-    /// values. Want of memory, after which nothing has changed, or the stamp was issued; what was drawn isn't given back.
+    /// values. Want of memory, only where the term may be delivered and there is a run of that number, after which nothing has
+    /// changed, or the stamp was issued; what was drawn isn't given back.
     pub fn give(&mut self, hook: &Hook, run: u32, term: &Term) -> Result<Given, Refusal>
         requires limits { IsInLimits term.now }
         requires numbers { HasNumbers self.old }
         ensures ok { IfOk result (λ g. IsGiven (allowed hook.now.rules.items) self.old run term.now g self.new) }
         ensures refused { IfErr result (λ e. e ≢ Memory → IsGiveRefused (allowed hook.now.rules.items) self.old run term.now e self.new) }
         ensures left { result ≡ Err Memory → IsGiveLeft (allowed hook.now.rules.items) self.old run term.now self.new }
+        ensures memory { result ≡ Err Memory → MayBeGiven self.old run term.now }
         ensures grows { HasGrown self.old self.new }
     {
         give_in(self.alloc, &mut self.scene, hook, run, term)

@@ -16,6 +16,11 @@ returns-in_err-step-clause-judged g c =
     let p = err_from_is_err_and c.from_residual.result c.from_residual.ensures.1 in
     rw (p.1, p.2) (λ is. absurd (unmade-stamp g.S.Sealer.opens g.S.Sealer.checks (allowed c.args.hook.now.rules.items) c.args.desk.now c.args.run c.args.bytes.now _ _ (c.in_err-step.ensures.refused (stamp-other _ is)) is))
 
+pub returns-in_err-step-clause-unfailed : goal.returns-in_err-step-clause-unfailed
+returns-in_err-step-clause-unfailed g c =
+    let p = err_from_is_err_and c.from_residual.result c.from_residual.ensures.1 in
+    rw (p.1, p.2) (λ is. absurd (unmade-stamp g.S.Sealer.opens g.S.Sealer.checks (allowed c.args.hook.now.rules.items) c.args.desk.now c.args.run c.args.bytes.now _ _ (c.in_err-step.ensures.refused (stamp-other _ is)) is))
+
 pub returns-clause-ok : goal.returns-clause-ok
 returns-clause-ok g c =
     ok-then c.enter.result c.enter.ensures.reply c.enter.ensures.ok c.enter.ensures.fit

@@ -7,7 +7,8 @@ use Rattle.text_hooks.specs.Rules.{allowed}
 use Rattle.agreement_laws.specs.Traces.{RunId}
 use Rattle.node_desk.specs.Deliveries.{after_message}
 use Rattle.world_run.specs.declared.scene.Scene.{Scene}
-use Rattle.world_run.specs.Gives.{HasTaken}
+use Rattle.world_run.specs.Gives.{HasTaken, MayBeGiven}
+use Rattle.world_run.specs.Born.{HasUnborn}
 use Rattle.world_run.specs.Kept.{IsKept, view_of}
 use Rattle.world_run.specs.Makings.{IsBrokenOff, IsMadeOf, IsUnanswered}
 use Rattle.world_run.specs.Turns.{made_by, moment, stamp_due}
@@ -22,6 +23,10 @@ few_sent w v n s e few = let f = ap (λ (x : WorldView). length (sent_in x.acts)
 
 placed : (w v : WorldView) (n : ℕ) (s : State) → v ≡ made_by w n s → (run : ℕ) (id : RunId) → run_in w.runs run ≡ Some id → slice_get v.runs (run - 1) ≡ Some id
 placed w v n s e run id is = subst (λ (ids : List RunId). slice_get ids (run - 1) ≡ Some id) (sym (ap (λ (x : WorldView). x.runs) e)) (run_place w.runs run id is)
+
+may_be : (w : WorldView) (run : ℕ) (m : Tree) (given : List Tree) → given ≡ known_in w → Derivable given m → (HasUnborn w.draws m → ⊥) → (id : RunId) → run_in w.runs run ≡ Some id → MayBeGiven w run m
+may_be w run m given known derivable born id is =
+    record { derivable = subst (λ (ts : List Tree). Derivable ts m) known derivable; is_born = born; id = id; is_run = is }
 
 pub returns-in_err-check_term-clause-refused : goal.returns-in_err-check_term-clause-refused
 returns-in_err-check_term-clause-refused g c =
@@ -147,3 +152,18 @@ returns-clause-grows g c =
     let same = view_reserved c.args.scene.now c.reserve.new.self c.reserve.ensures.same in
     let made = subst (λ (x : WorldView). IsMadeOf (allowed c.args.hook.now.rules.items) x (view_of c.answer.new.scene) c.in-Some.id c.args.term.now c.in_ok-step.step) same c.in_ok-step.ensures.ok in
     gave_grows (allowed c.args.hook.now.rules.items) (view_of c.args.scene.now) c.args.run c.args.term.now known c.in_ok-check_term.ensures.is_born c.in-Some.id is_run (view_of c.answer.new.scene) c.in_ok-step.step made (view_of c.enter_step.new.scene) c.enter_step.result c.enter_step.ensures.ok c.enter_step.ensures.err
+
+pub returns-in_err-reserve-clause-memory : goal.returns-in_err-reserve-clause-memory
+returns-in_err-reserve-clause-memory g c =
+    let is_run = ap (λ (ids : List RunId). run_in ids c.args.run) (sym c.deref.ensures.value) ∙ sym c.in-Some.ensures in
+    λ _. may_be (view_of c.args.scene.now) c.args.run c.args.term.now c.args.scene.now.knowledge.given c.requires.kept.learnt c.in_ok-check_term.ensures.derivable c.in_ok-check_term.ensures.is_born c.in-Some.id is_run
+
+pub returns-in_err-step-clause-memory : goal.returns-in_err-step-clause-memory
+returns-in_err-step-clause-memory g c =
+    let is_run = ap (λ (ids : List RunId). run_in ids c.args.run) (sym c.deref.ensures.value) ∙ sym c.in-Some.ensures in
+    λ _. may_be (view_of c.args.scene.now) c.args.run c.args.term.now c.args.scene.now.knowledge.given c.requires.kept.learnt c.in_ok-check_term.ensures.derivable c.in_ok-check_term.ensures.is_born c.in-Some.id is_run
+
+pub returns-clause-memory : goal.returns-clause-memory
+returns-clause-memory g c =
+    let is_run = ap (λ (ids : List RunId). run_in ids c.args.run) (sym c.deref.ensures.value) ∙ sym c.in-Some.ensures in
+    λ _. may_be (view_of c.args.scene.now) c.args.run c.args.term.now c.args.scene.now.knowledge.given c.requires.kept.learnt c.in_ok-check_term.ensures.derivable c.in_ok-check_term.ensures.is_born c.in-Some.id is_run

@@ -9,9 +9,9 @@ returns-in_err-check_commit-clause-refused g c =
     let node = c.self.invariant.node in
     let kind : c.kind_of-kind.result ≡ c.self.inside.ring.kind = c.kind_of-kind.ensures in
     let log : c.list-log.result.now ≡ c.self.inside.log.events = c.list-log.ensures.value in
-    let places : c.deref.result.now ≡ c.self.inside.places.items = c.deref.ensures.value in
+    let run_slots : c.deref.result.now ≡ c.self.inside.run_slots.items = c.deref.ensures.value in
     rw (p.1, p.2, ← c.self.view_is)
-    (answer-is _ _ _ _ _ _ _ _ _ _ c.self.invariant c.args.run c.args.clock c.args.step.now _ (rw (log, places, kind) at (c.in_err-check_commit.ensures.refused node.accepted node.stands)))
+    (answer-is _ _ _ _ _ _ _ _ _ _ c.self.invariant c.args.run c.args.clock c.args.step.now _ (rw (log, run_slots, kind) at (c.in_err-check_commit.ensures.refused node.accepted node.stands)))
 
 pub returns-in_err-check_commit-clause-memory : goal.returns-in_err-check_commit-clause-memory
 returns-in_err-check_commit-clause-memory g c =
@@ -24,6 +24,6 @@ returns-clause-fit g c =
     let node = c.self.invariant.node in
     let kind : c.kind_of-kind.result ≡ c.self.inside.ring.kind = c.kind_of-kind.ensures in
     let log : c.list-log.result.now ≡ c.self.inside.log.events = c.list-log.ensures.value in
-    let places : c.deref.result.now ≡ c.self.inside.places.items = c.deref.ensures.value in
+    let run_slots : c.deref.result.now ≡ c.self.inside.run_slots.items = c.deref.ensures.value in
     rw (← c.self.view_is)
-    (fit-is _ _ _ _ _ _ _ _ _ _ c.self.invariant c.args.run c.args.clock c.args.step.now (rw (log, places) at c.in_ok-check_commit.ensures.current) (rw kind at (c.in_ok-check_commit.ensures.fit node.accepted node.stands)))
+    (fit-is _ _ _ _ _ _ _ _ _ _ c.self.invariant c.args.run c.args.clock c.args.step.now (rw (log, run_slots) at c.in_ok-check_commit.ensures.current) (rw kind at (c.in_ok-check_commit.ensures.fit node.accepted node.stands)))

@@ -21,3 +21,6 @@ returns-clause-left g c = rw (← c.self.view_is) c.give_in.ensures.left
 
 pub returns-clause-grows : goal.returns-clause-grows
 returns-clause-grows g c = rw (← c.self.view_is) c.give_in.ensures.grows
+
+pub returns-clause-memory : goal.returns-clause-memory
+returns-clause-memory g c = rw (← c.self.view_is) c.give_in.ensures.memory

@@ -7,7 +7,7 @@ use crate::live::Live;
 
 /// A run in the table. Its state stands once: here until its first commit, and then in the log.
 #[derive(Drop)]
-pub(crate) struct Place {
+pub(crate) struct RunSlot {
     /// The state with which it was opened.
     pub start: Live,
     /// Where its last commit stands in the log.
@@ -16,7 +16,7 @@ pub(crate) struct Place {
     pub open: bool,
 }
 
-impl Place {
+impl RunSlot {
     /// Moves on to a commit that will stand there in the log.
     pub fn advance(&mut self, at: usize, going: bool)
         ensures { self.new ≡ record { start = self.old.start; at = Some at; «open» = going } }
@@ -27,14 +27,14 @@ impl Place {
 }
 
 /// The state of a run, lent by the log.
-pub(crate) fn latest<'a>(place: &'a Place, log: &'a [Event]) -> &'a Live
-    ensures state { live_state result.now ≡ (shown_in log.now place.now).state }
+pub(crate) fn latest<'a>(run_slot: &'a RunSlot, log: &'a [Event]) -> &'a Live
+    ensures state { live_state result.now ≡ (shown_in log.now run_slot.now).state }
 {
-    let Some(at) = place.at else {
-        return &place.start;
+    let Some(at) = run_slot.at else {
+        return &run_slot.start;
     };
     match log.get(at) {
         Some(Event::Commit { step, .. }) => &step.after,
-        _ => &place.start,
+        _ => &run_slot.start,
     }
 }
