@@ -2,7 +2,8 @@
 use Rattle.std.proofs.Common.{◌≡◌, ℕ, ◌+◌, ◌≤◌, true, List, [], ◌∷◌, length, drop, refl, sym, subst, arith}
 use Rattle.term_values.specs.Lengths.{length_of}
 use Rattle.term_values.specs.Trees.{Tree, depth_of}
-use Rattle.tagged_codec.specs.Grammar.{Fits, IsInLimits}
+use Rattle.term_values.specs.Limits.{Fits}
+use Rattle.tagged_codec.specs.Grammar.{IsInLimits}
 use Rattle.tagged_codec.proofs.Grammar.{length_of_spelling}
 use Rattle.mech_rows.specs.declared.Mech.{Mech}
 use Rattle.mech_rows.specs.declared.Mech.TheVariants.{E1, E2, E3, E4, E5, E6, C1, C2, C3, C4, K3, K4, K5, K6, K8, K9}

@@ -1,6 +1,9 @@
 //! The command line: undisturbed runs and scripts, from the words to the printed lines.
 #![tactic(auto)]
 
+ghost use Rattle.std.specs.Prelude.{◌≡◌};
+ghost use Rattle.std.specs.Process.{exit_status};
+
 mod command;
 #[cfg(test)]
 mod example_tests;
@@ -68,11 +71,17 @@ fn run(rt: &HostRuntime) -> u8 {
     run_offline(rt.alloc(), &words, &mut input, &mut out)
 }
 
-fn main(rt: HostRuntime) -> ExitCode {
-    let status = run(&rt);
+/// Ends with a status, and tells a person what it means where it is none of success.
+fn end(rt: &HostRuntime, status: u8) -> ExitCode
+    ensures status { exit_status result ≡ status }
+{
     if status != DONE {
         // There is nobody left to tell where this fails.
         let _ = eprintln!(rt; "{}", reason(status));
     }
     ExitCode::from(status)
+}
+
+fn main(rt: HostRuntime) -> ExitCode {
+    end(&rt, run(&rt))
 }

@@ -1,9 +1,10 @@
-ghost use Rattle.std.specs.Prelude.{◌≡◌, None};
+ghost use Rattle.std.specs.Prelude.{ℕ, IsTrue, not, take};
+ghost use Rattle.std.specs.Io.KnownBytes.{Appends};
 
 use outside::{Failed, PutFault, Sink, Source};
 use std::io::{Read, Write};
 
-/// A reader of the system as a source. Nothing is told of its bytes.
+/// A reader of the system as a source. Its bytes are told where the reader tells them.
 #[derive(Drop)]
 pub struct Input<R: Read> {
     reader: R,
@@ -18,9 +19,7 @@ impl<R: Read> Input<R> {
 }
 
 impl<R: Read> Source for Input<R> {
-    ghost use Rattle.std.specs.Prelude.{None};
-
-    ghost left = { λ _. None };
+    ghost left = { λ s. R.remaining s.reader };
 
     ghost fault_count = { λ s. s.faults };
 
@@ -39,7 +38,7 @@ impl<R: Read> Source for Input<R> {
     }
 }
 
-/// A writer of the system as a sink. Nothing is told of its bytes.
+/// A writer of the system as a sink. What was put is told where the writer tells it.
 #[derive(Drop)]
 pub struct Output<W: Write> {
     writer: W,
@@ -54,12 +53,15 @@ impl<W: Write> Output<W> {
 }
 
 /// Writes the whole piece; a write that takes nothing, or an error, ends it.
-pub(crate) fn write_whole<W: Write>(writer: &mut W, piece: &[u8]) -> bool {
-    let mut rest = piece;
-    while !rest.is_empty() {
-        match writer.write(rest) {
+pub(crate) fn write_whole<W: Write>(writer: &mut W, piece: &[u8]) -> bool
+    ensures whole { IsTrue result → Appends (W.contents writer.old) (W.contents writer.new) piece.now }
+    ensures front { IsTrue (not result) → (n : ℕ) × Appends (W.contents writer.old) (W.contents writer.new) (take n piece.now) }
+{
+    let mut written = 0;
+    while written < piece.len() {
+        match writer.write(&piece[written..]) {
             Ok(0) => return false,
-            Ok(count) => rest = &rest[count..],
+            Ok(count) => written += count,
             Err(_) => return false,
         }
     }
@@ -67,9 +69,10 @@ pub(crate) fn write_whole<W: Write>(writer: &mut W, piece: &[u8]) -> bool {
 }
 
 impl<W: Write> Sink for Output<W> {
-    ghost use Rattle.std.specs.Prelude.{None};
+    ghost use Rattle.std.specs.Prelude.{◌≢◌, Err};
+    ghost use Rattle.outside.specs.Causes.{HasPutCause, PutAppends};
 
-    ghost put_so_far = { λ _. None };
+    ghost put_so_far = { λ s. W.contents s.writer };
 
     ghost fault_count = { λ s. s.faults };
 
@@ -77,7 +80,16 @@ impl<W: Write> Sink for Output<W> {
         self.faults
     }
 
-    fn put(&mut self, piece: &[u8]) -> Result<(), PutFault> {
+    /// Appends the whole piece.
+    ///
+    /// # Errors
+    ///
+    /// [`PutFault::Failed`] where a write failed or took nothing; a front of the piece was appended.
+    fn put(&mut self, piece: &[u8]) -> Result<(), PutFault>
+        ensures bytes { PutAppends (W.contents self.old.writer) (W.contents self.new.writer) result piece.now }
+        ensures cause { HasPutCause self.old.faults self.new.faults result }
+        ensures never { result ≢ Err PutFault.Memory }
+    {
         if write_whole(&mut self.writer, piece) {
             return Ok(());
         }

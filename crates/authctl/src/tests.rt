@@ -2,7 +2,7 @@ use crate::offline::run_offline;
 use crate::online::is_online;
 use crate::real::{Input, Output, write_whole};
 use crate::{reason, status_of};
-use outside::{MemSink, MemSource, Sink, Source, SureSink, SureSource};
+use outside::{MemSink, MemSource, PutFault, Sink, Source, SureSink, SureSource};
 use std::alloc::Global;
 use std::io;
 use std::io::{Read, Write};
@@ -264,9 +264,9 @@ fn a_writer_as_a_sink(rt: HostRuntime) {
     let mut out = Output::new(slow);
     assert!(rt; out.put(b"abcde").is_ok());
     assert_eq!(rt; out.faults(), 0);
-    assert!(rt; out.put(b"fghij").is_err());
+    assert!(rt; out.put(b"fghij") == Err(PutFault::Failed));
     assert_eq!(rt; out.faults(), 1);
-    assert!(rt; out.put(b"k").is_err());
+    assert!(rt; out.put(b"k") == Err(PutFault::Failed));
     assert_eq!(rt; out.faults(), 2);
 }
 

@@ -1,4 +1,4 @@
-//! Tests of the crates on which the roles stand, and of scripts as text.
+//! Tests of the crates on which the roles stand.
 #![tactic(auto)]
 
 #[cfg(test)]
@@ -6,15 +6,11 @@ mod derivations;
 #[cfg(test)]
 mod ends;
 #[cfg(test)]
-mod fresh;
+mod links;
 #[cfg(test)]
 mod partners;
 #[cfg(test)]
-mod scripts;
-#[cfg(test)]
 mod seals;
-#[cfg(test)]
-mod spellings;
 #[cfg(test)]
 mod steps;
 #[cfg(test)]

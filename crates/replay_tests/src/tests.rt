@@ -382,3 +382,13 @@ fn writes_may_fail(rt: HostRuntime) -> Result<(), Fail> {
     assert_eq!(rt; status, 0);
     Ok(())
 }
+
+#[test]
+fn the_line_that_names_a_bad_one_may_fail(rt: HostRuntime) -> Result<(), Fail> {
+    let alloc = rt.alloc();
+    let mut input = SureSource::new(b"no line\n".to_vec(alloc)?);
+    let mut out = MemSink::new(alloc, vec![in alloc; 1]?);
+    assert_eq!(rt; replay(alloc, &mut input, &mut out), 4);
+    assert!(rt; out.written().is_empty());
+    Ok(())
+}

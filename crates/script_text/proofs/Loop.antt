@@ -72,10 +72,5 @@ pub item_fails : (e : ReadFault) (one : State → Option (Tree × State)) (front
 item_fails Memory one front i s rest total lt h so_far = tt
 item_fails Malformed one front i s rest total lt h so_far = no_item one front i s total lt h so_far
 
-pub mark_fails : (e : ReadFault) (one : State → Option (Tree × State)) (front : List Tree) (i : ℕ) (s after rest : State) (gone : List ℕ) (t : Tree) (total : Option (List Tree × State)) → i < 32 → one s ≡ Some (t, after) → Reads {X = ℕ} (λ b. b) (Err e) gone (byte_at after.rest)
-    → with_front front (items_at one (32 - i) s) ≡ total → Reads {X = List Tree} (λ ts. ts) (Err e) rest total
-mark_fails Memory one front i s after rest gone t total lt h b so_far = tt
-mark_fails Malformed one front i s after rest gone t total lt h b so_far = no_mark one front i s after t total lt h b so_far
-
 pub marked : (m : Read ℕ) (b c : ℕ) (rest : List ℕ) → m ≡ Some (b, rest) → b ≡ c → m ≡ Some (c, rest)
 marked m b c rest e same = e ∙ ap (λ (x : ℕ). Some (x, rest)) same

@@ -6,7 +6,8 @@ use Rattle.std.proofs.lemmas.List.{append-nil}
 use Rattle.term_values.specs.Trees.{Tree, Trees, count_of, depth_of, greatest_depth}
 use Rattle.term_values.specs.Trees as tree
 use Rattle.term_values.specs.Lengths.{length_of, lengths_of}
-use Rattle.tagged_codec.specs.Grammar.{Fits, AllFit, IsInLimits}
+use Rattle.term_values.specs.Limits.{Fits, AllFit}
+use Rattle.tagged_codec.specs.Grammar.{IsInLimits}
 use Rattle.tagged_codec.proofs.Grammar.{length_of_spelling}
 use Rattle.script_text.specs.declared.reading.Marks.{Marks}
 use Rattle.script_text.specs.declared.reading.ReadFault.{ReadFault}

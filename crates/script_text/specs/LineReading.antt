@@ -12,16 +12,22 @@ use Rattle.mech_rows.specs.declared.kinds.Slot.TheVariants.{X1, X2, X3, X4, X5, 
 use Rattle.mech_rows.specs.Found.{found}
 use Rattle.script_text.specs.declared.line.Line.{Line}
 use Rattle.script_text.specs.declared.line.Line.TheVariants as line
+use Rattle.script_text.specs.declared.reading.Malformed.{Malformed}
 use Rattle.script_text.specs.declared.reading.ReadFault.{ReadFault}
-use Rattle.script_text.specs.declared.reading.ReadFault.TheVariants.{Memory, Malformed}
+use Rattle.script_text.specs.declared.reading.ReadFault.TheVariants as fault
 use Rattle.script_text.specs.Lines.{SlotTexts, sends_text}
 use Rattle.script_text.specs.Reading.{◌>>=◌, Read, byte_at, bytes_at, just, mark_at, number_at, upto}
 
 -- what a reader of words returned, seen by view, is what the words say, unless memory ran out
 abbrev pub Gives : {X Y : Type 0} → (X → Y) → Result X ReadFault → Option Y → Type 0
 Gives view (Ok x) said = said ≡ Some (view x)
-Gives view (Err Malformed) said = said ≡ None
-Gives view (Err Memory) said = Unit {0}
+Gives view (Err fault.Malformed) said = said ≡ None
+Gives view (Err fault.Memory) said = Unit {0}
+
+-- what a reader of words that takes no memory returned, seen by view, is what the words say
+abbrev pub GivesExactly : {X Y : Type 0} → (X → Y) → Result X Malformed → Option Y → Type 0
+GivesExactly view (Ok x) said = said ≡ Some (view x)
+GivesExactly view (Err e) said = said ≡ None
 
 -- a reading that leaves nothing
 abbrev pub whole : {X : Type 0} → Read X → Option X

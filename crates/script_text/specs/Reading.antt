@@ -11,8 +11,9 @@ use Rattle.term_values.specs.declared.Stamp.TheVariants.{Time, Seq}
 use Rattle.term_values.specs.Trees.{Tree, name, stamp, nonce, part, text, tag, blob, tuple, seal, check, trees, depth_of}
 use Rattle.term_values.specs.Lengths.{length_of}
 use Rattle.script_text.specs.Notation.{is_numeral, value_of, message_named, item_named, or_empty}
+use Rattle.script_text.specs.declared.reading.Malformed.{Malformed}
 use Rattle.script_text.specs.declared.reading.ReadFault.{ReadFault}
-use Rattle.script_text.specs.declared.reading.ReadFault.TheVariants.{Memory, Malformed}
+use Rattle.script_text.specs.declared.reading.ReadFault.TheVariants as fault
 use Rattle.script_text.specs.declared.reading.Marks.{Marks}
 
 -- a value and the characters after it
@@ -33,8 +34,13 @@ None >>= f = None
 -- What a reader returned, seen by view, and what it left, are what reading gives, unless memory ran out.
 abbrev pub Reads : {X Y S : Type 0} → (X → Y) → Result X ReadFault → S → Option (Y × S) → Type 0
 Reads view (Ok x) rest read = read ≡ Some (view x, rest)
-Reads view (Err Malformed) rest read = read ≡ None
-Reads view (Err Memory) rest read = Unit {0}
+Reads view (Err fault.Malformed) rest read = read ≡ None
+Reads view (Err fault.Memory) rest read = Unit {0}
+
+-- What a reader that takes no memory returned, seen by view, and what it left, are what reading gives.
+abbrev pub ReadsExactly : {X Y S : Type 0} → (X → Y) → Result X Malformed → S → Option (Y × S) → Type 0
+ReadsExactly view (Ok x) rest read = read ≡ Some (view x, rest)
+ReadsExactly view (Err e) rest read = read ≡ None
 
 -- a reader of terms that meets no `@`
 abbrev pub keeping : {X : Type 0} → Marks → Read X → Option (X × State)

@@ -1,4 +1,4 @@
-use crate::reading::ReadFault;
+use crate::reading::{Malformed, ReadFault};
 use std::alloc::{AllocError, AllocFailed};
 
 /// Why a line, or a term, was not read.
@@ -31,6 +31,17 @@ impl<T: Drop> From<AllocFailed<T>> for BadLine {
 
     fn from(_: AllocFailed<T>) -> BadLine {
         BadLine::Memory
+    }
+}
+
+impl From<Malformed> for BadLine {
+    ghost use Rattle.script_text.specs.declared.bad.BadLine.TheVariants.{Grammar};
+    ghost use Rattle.std.specs.Prelude.{◌≡◌};
+
+    ghost from_gives = { λ _ e. e ≡ Grammar };
+
+    fn from(_: Malformed) -> BadLine {
+        BadLine::Grammar
     }
 }
 

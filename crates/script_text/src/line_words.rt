@@ -1,73 +1,73 @@
 ghost use Rattle.std.specs.Prelude.{◌≡◌, ◌<◌, ◌^◌, [], Some, not, IfOk, IsTrue};
 ghost use Rattle.mech_rows.specs.Facts.{same_role};
-ghost use Rattle.script_text.specs.Reading.{Reads, bytes_at, upto};
+ghost use Rattle.script_text.specs.Reading.{Reads, ReadsExactly, bytes_at, upto};
 ghost use Rattle.script_text.specs.Lines.{is_offered};
-ghost use Rattle.script_text.specs.LineReading.{Gives, mech_in, name_in, number_below, number_in, part_in, prefix_in, role_in, slot_at, slot_in, slot_of_digit, text_at, text_in, whole};
+ghost use Rattle.script_text.specs.LineReading.{Gives, GivesExactly, mech_in, name_in, number_below, number_in, part_in, prefix_in, role_in, slot_at, slot_in, slot_of_digit, text_at, text_in, whole};
 
-use crate::reading::{ReadFault, Reader};
+use crate::reading::{Malformed, ReadFault, Reader};
 use mech_rows::{Mech, Role, Slot};
 use std::alloc::Global;
 use term_values::{Name, Part, Text};
 
 /// The number below the limit that a word writes.
-pub(crate) fn number(word: &[u8], limit: u32) -> Result<u32, ReadFault>
-    ensures value { Gives (λ n. n) result (number_below limit word.now) }
+pub(crate) fn number(word: &[u8], limit: u32) -> Result<u32, Malformed>
+    ensures value { GivesExactly (λ n. n) result (number_below limit word.now) }
     ensures below { IfOk result (λ n. n < limit) }
 {
     let number = u32(word)?;
     if number >= limit {
-        return Err(ReadFault::Malformed);
+        return Err(Malformed);
     }
     Ok(number)
 }
 
 /// The number below 2 ^ 32 that a word writes.
-pub(crate) fn u32(word: &[u8]) -> Result<u32, ReadFault>
-    ensures { Gives (λ n. n) result (number_in (2 ^ 32) word.now) }
+pub(crate) fn u32(word: &[u8]) -> Result<u32, Malformed>
+    ensures { GivesExactly (λ n. n) result (number_in (2 ^ 32) word.now) }
 {
     let mut reader = Reader { rest: word };
     let number = reader.u32()?;
     if !reader.rest.is_empty() {
-        return Err(ReadFault::Malformed);
+        return Err(Malformed);
     }
     Ok(number)
 }
 
 /// The number below 2 ^ 64 that a word writes.
-pub(crate) fn u64(word: &[u8]) -> Result<u64, ReadFault>
-    ensures { Gives (λ n. n) result (number_in (2 ^ 64) word.now) }
+pub(crate) fn u64(word: &[u8]) -> Result<u64, Malformed>
+    ensures { GivesExactly (λ n. n) result (number_in (2 ^ 64) word.now) }
 {
     let mut reader = Reader { rest: word };
     let number = reader.u64()?;
     if !reader.rest.is_empty() {
-        return Err(ReadFault::Malformed);
+        return Err(Malformed);
     }
     Ok(number)
 }
 
-pub(crate) fn name(word: &[u8]) -> Result<Name, ReadFault>
-    ensures { Gives (λ n. n) result (name_in word.now) }
+pub(crate) fn name(word: &[u8]) -> Result<Name, Malformed>
+    ensures { GivesExactly (λ n. n) result (name_in word.now) }
 {
     match Name::new(u32(word)?) {
         Some(name) => Ok(name),
-        None => Err(ReadFault::Malformed),
+        None => Err(Malformed),
     }
 }
 
-pub(crate) fn part(word: &[u8]) -> Result<Part, ReadFault>
-    ensures { Gives (λ p. p) result (part_in word.now) }
+pub(crate) fn part(word: &[u8]) -> Result<Part, Malformed>
+    ensures { GivesExactly (λ p. p) result (part_in word.now) }
 {
     let mut reader = Reader { rest: word };
     let part = reader.part()?;
     if !reader.rest.is_empty() {
-        return Err(ReadFault::Malformed);
+        return Err(Malformed);
     }
     Ok(part)
 }
 
 /// The mechanism of that name, among those that lines may name.
-pub(crate) fn mech(word: &[u8]) -> Result<Mech, ReadFault>
-    ensures value { Gives (λ m. m) result (mech_in word.now) }
+pub(crate) fn mech(word: &[u8]) -> Result<Mech, Malformed>
+    ensures value { GivesExactly (λ m. m) result (mech_in word.now) }
     ensures offered { IfOk result (λ m. IsTrue (is_offered m)) }
 {
     if word == b"E1".as_slice() {
@@ -94,11 +94,11 @@ pub(crate) fn mech(word: &[u8]) -> Result<Mech, ReadFault>
     if word == b"C4".as_slice() {
         return Ok(Mech::C4);
     }
-    Err(ReadFault::Malformed)
+    Err(Malformed)
 }
 
-pub(crate) fn role(word: &[u8]) -> Result<Role, ReadFault>
-    ensures value { Gives (λ r. r) result (role_in word.now) }
+pub(crate) fn role(word: &[u8]) -> Result<Role, Malformed>
+    ensures value { GivesExactly (λ r. r) result (role_in word.now) }
     ensures peer { IfOk result (λ r. IsTrue (not (same_role r Role.P))) }
 {
     if word == b"A".as_slice() {
@@ -107,12 +107,12 @@ pub(crate) fn role(word: &[u8]) -> Result<Role, ReadFault>
     if word == b"B".as_slice() {
         return Ok(Role::B);
     }
-    Err(ReadFault::Malformed)
+    Err(Malformed)
 }
 
 /// The slot X1 to X9 of that digit.
-fn slot_of(digit: u8) -> Result<Slot, ReadFault>
-    ensures { Gives (λ s. s) result (slot_of_digit digit) }
+fn slot_of(digit: u8) -> Result<Slot, Malformed>
+    ensures { GivesExactly (λ s. s) result (slot_of_digit digit) }
 {
     match digit {
         b'1' => Ok(Slot::X1),
@@ -124,26 +124,26 @@ fn slot_of(digit: u8) -> Result<Slot, ReadFault>
         b'7' => Ok(Slot::X7),
         b'8' => Ok(Slot::X8),
         b'9' => Ok(Slot::X9),
-        _ => Err(ReadFault::Malformed),
+        _ => Err(Malformed),
     }
 }
 
 /// Takes a slot X1 to X9.
 #[tactic(auto, unfolding(crate::specs::LineReading::slot_at))]
-fn slot_first(reader: &mut Reader) -> Result<Slot, ReadFault>
-    ensures { Reads (λ s. s) result reader.new.rest.now (slot_at reader.old.rest.now) }
+fn slot_first(reader: &mut Reader) -> Result<Slot, Malformed>
+    ensures { ReadsExactly (λ s. s) result reader.new.rest.now (slot_at reader.old.rest.now) }
 {
     reader.mark(b'X')?;
     slot_of(reader.byte()?)
 }
 
-pub(crate) fn slot(word: &[u8]) -> Result<Slot, ReadFault>
-    ensures { Gives (λ s. s) result (slot_in word.now) }
+pub(crate) fn slot(word: &[u8]) -> Result<Slot, Malformed>
+    ensures { GivesExactly (λ s. s) result (slot_in word.now) }
 {
     let mut reader = Reader { rest: word };
     let slot = slot_first(&mut reader)?;
     if !reader.rest.is_empty() {
-        return Err(ReadFault::Malformed);
+        return Err(Malformed);
     }
     Ok(slot)
 }

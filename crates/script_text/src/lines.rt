@@ -5,14 +5,14 @@ ghost use Rattle.term_values.specs.Trees.{Tree};
 ghost use Rattle.mech_rows.specs.Facts.{same_role};
 ghost use Rattle.mech_rows.specs.Found.{Once, found};
 ghost use Rattle.script_text.specs.declared.line.Line.TheVariants as LineOf;
-ghost use Rattle.script_text.specs.LineReading.{Gives, allow_words, five_words, four_words, IsGiveWords, number_in, open_words, pair_words, plain_words, texts_from, three_words, two_words};
+ghost use Rattle.script_text.specs.LineReading.{Gives, GivesExactly, allow_words, five_words, four_words, IsGiveWords, number_in, open_words, pair_words, plain_words, texts_from, three_words, two_words};
 ghost use Rattle.script_text.specs.Lines.{IsLine, WrittenLine, is_blank, is_line_named, is_offered, is_silent, said, sends_text, words_of};
 ghost use Rattle.script_text.specs.Notation.{IsReading, Written, is_named, replaced};
 
 use crate::bad::BadLine;
 use crate::line::Line;
 use crate::line_words as words;
-use crate::reading::ReadFault;
+use crate::reading::{Malformed, ReadFault};
 use crate::terms::read_term;
 use mech_rows::{Mech, Role, RunHead, Slot, Texts};
 use std::alloc::Global;
@@ -32,8 +32,8 @@ const BLANKS_MAX: usize = 13;
 const LENGTH_END: u32 = 1025;
 
 /// A line of two words.
-fn two(verb: &[u8], x: &[u8]) -> Result<Line, ReadFault>
-    ensures says { Gives (λ l. l) result (two_words verb.now x.now) }
+fn two(verb: &[u8], x: &[u8]) -> Result<Line, Malformed>
+    ensures says { GivesExactly (λ l. l) result (two_words verb.now x.now) }
 {
     if verb == b"own".as_slice() {
         let part = words::part(x)?;
@@ -43,12 +43,12 @@ fn two(verb: &[u8], x: &[u8]) -> Result<Line, ReadFault>
         let run = words::u32(x)?;
         return Ok(Line::Drop { run });
     }
-    Err(ReadFault::Malformed)
+    Err(Malformed)
 }
 
 /// A line of three words, but for `give`.
-fn three(verb: &[u8], x: &[u8], y: &[u8]) -> Result<Line, ReadFault>
-    ensures says { Gives (λ l. l) result (three_words verb.now x.now y.now) }
+fn three(verb: &[u8], x: &[u8], y: &[u8]) -> Result<Line, Malformed>
+    ensures says { GivesExactly (λ l. l) result (three_words verb.now x.now y.now) }
 {
     if verb == b"party".as_slice() && y == b"seq".as_slice() {
         let name = words::name(x)?;
@@ -63,12 +63,12 @@ fn three(verb: &[u8], x: &[u8], y: &[u8]) -> Result<Line, ReadFault>
         let ms = words::u64(y)?;
         return Ok(Line::Clock { name, ms });
     }
-    Err(ReadFault::Malformed)
+    Err(Malformed)
 }
 
 /// A line of four words.
-fn four(verb: &[u8], x: &[u8], y: &[u8], z: &[u8]) -> Result<Line, ReadFault>
-    ensures says { Gives (λ l. l) result (four_words verb.now x.now y.now z.now) }
+fn four(verb: &[u8], x: &[u8], y: &[u8], z: &[u8]) -> Result<Line, Malformed>
+    ensures says { GivesExactly (λ l. l) result (four_words verb.now x.now y.now z.now) }
 {
     if verb == b"party".as_slice() && y == b"time".as_slice() {
         let name = words::name(x)?;
@@ -82,11 +82,11 @@ fn four(verb: &[u8], x: &[u8], y: &[u8], z: &[u8]) -> Result<Line, ReadFault>
     if verb == b"pair".as_slice() {
         return pair(x, y, z, false);
     }
-    Err(ReadFault::Malformed)
+    Err(Malformed)
 }
 
-fn pair(x: &[u8], y: &[u8], z: &[u8], revealed: bool) -> Result<Line, ReadFault>
-    ensures says { Gives (λ l. l) result (pair_words x.now y.now z.now revealed) }
+fn pair(x: &[u8], y: &[u8], z: &[u8], revealed: bool) -> Result<Line, Malformed>
+    ensures says { GivesExactly (λ l. l) result (pair_words x.now y.now z.now revealed) }
 {
     let a = words::name(x)?;
     let b = words::name(y)?;
@@ -128,7 +128,7 @@ fn five(
     ensures says { Gives (λ l. l) result (five_words verb.now w.now x.now y.now z.now) }
 {
     if verb == b"pair".as_slice() && z == b"revealed".as_slice() {
-        return pair(w, x, y, true);
+        return Ok(pair(w, x, y, true)?);
     }
     if verb == b"allow".as_slice() {
         return allow(alloc, w, x, y, z);
@@ -202,14 +202,14 @@ fn texts_after(
 }
 
 /// The head of a run of a mechanism without a third party.
-fn head(mech: Mech, role: Role, a: Name, b: Name) -> Result<RunHead, ReadFault>
+fn head(mech: Mech, role: Role, a: Name, b: Name) -> Result<RunHead, Malformed>
     requires offered { IsTrue (is_offered mech) }
     requires peer { IsTrue (not (same_role role Role.P)) }
     ensures { MatchResult result (λ h. h ≡ record { mech = mech; role = role; a = a; b = b; p = None }) (λ _. ⊥) }
 {
     match RunHead::new(mech, role, a, b, None) {
         Some(head) => Ok(head),
-        None => Err(ReadFault::Malformed),
+        None => Err(Malformed),
     }
 }
 
@@ -255,9 +255,9 @@ fn plain(alloc: Global, words: &[&[u8]]) -> Result<Line, ReadFault>
     ensures says { Gives (λ l. l) result (plain_words (map (λ w. w.now) words.now)) }
 {
     match words {
-        [verb, x] => two(verb, x),
-        [verb, x, y] => three(verb, x, y),
-        [verb, x, y, z] => four(verb, x, y, z),
+        [verb, x] => Ok(two(verb, x)?),
+        [verb, x, y] => Ok(three(verb, x, y)?),
+        [verb, x, y, z] => Ok(four(verb, x, y, z)?),
         [verb, w, x, y, z, rest @ ..] => {
             if *verb == b"open".as_slice() {
                 return open(alloc, w, x, y, z, rest);

@@ -5,7 +5,7 @@ ghost use Rattle.std.specs.Option.{option_copied};
 ghost use Rattle.term_values.specs.Lengths.{length_of};
 ghost use Rattle.term_values.specs.TreeOf.{tree_of};
 ghost use Rattle.script_text.specs.Notation.{is_numeral, item_named, message_named, value_of};
-ghost use Rattle.script_text.specs.Reading.{Reads, State, atom_at, byte_at, bytes_at, digits_of, found_at, is_lower_digit, items_at, just, key_at, lent_at, limits, mark_at, name_at, number_at, numeral_at, sealed_at, second_at, sent_at, skip_at, term_at, tree_under, tuple_at, upto};
+ghost use Rattle.script_text.specs.Reading.{Reads, ReadsExactly, State, atom_at, byte_at, bytes_at, digits_of, found_at, is_lower_digit, items_at, just, key_at, lent_at, limits, mark_at, name_at, number_at, numeral_at, sealed_at, second_at, sent_at, skip_at, term_at, tree_under, tuple_at, upto};
 
 use hex::FromHexError;
 use std::alloc::{AllocError, AllocFailed, Global};
@@ -14,7 +14,11 @@ use term_values::{Bytes, Form, Items, Key, Name, Nonce, Part, Stamp, Tag, Term, 
 /// The most items of a tuple.
 const ITEMS_MAX: usize = 32;
 
-/// Why nothing was read.
+/// What stands there is not what was to be read.
+#[derive(Clone, Copy, Debug, PartialEq, Eq)]
+pub(crate) struct Malformed;
+
+/// Why nothing was read by a call that takes memory.
 #[derive(Clone, Copy, Debug, PartialEq, Eq)]
 pub(crate) enum ReadFault {
     Memory,
@@ -40,6 +44,17 @@ impl<T: Drop> From<AllocFailed<T>> for ReadFault {
 
     fn from(_: AllocFailed<T>) -> ReadFault {
         ReadFault::Memory
+    }
+}
+
+impl From<Malformed> for ReadFault {
+    ghost use Rattle.script_text.specs.declared.reading.ReadFault.TheVariants as fault;
+    ghost use Rattle.std.specs.Prelude.{◌≡◌};
+
+    ghost from_gives = { λ _ e. e ≡ fault.Malformed };
+
+    fn from(_: Malformed) -> ReadFault {
+        ReadFault::Malformed
     }
 }
 
@@ -212,11 +227,11 @@ pub(crate) struct Reader<'a> {
 
 impl<'a> Reader<'a> {
     #[tactic(auto, unfolding(crate::specs::Reading::byte_at))]
-    pub(crate) fn byte(&mut self) -> Result<u8, ReadFault>
-        ensures { Reads (λ b. b) result self.new.rest.now (byte_at self.old.rest.now) }
+    pub(crate) fn byte(&mut self) -> Result<u8, Malformed>
+        ensures { ReadsExactly (λ b. b) result self.new.rest.now (byte_at self.old.rest.now) }
     {
         match self.rest {
-            [] => Err(ReadFault::Malformed),
+            [] => Err(Malformed),
             [byte, rest @ ..] => {
                 self.rest = rest;
                 Ok(*byte)
@@ -226,15 +241,15 @@ impl<'a> Reader<'a> {
 
     /// Takes the character that has to come.
     #[tactic(auto, unfolding(crate::specs::Reading::mark_at))]
-    pub(crate) fn mark(&mut self, mark: u8) -> Result<(), ReadFault>
-        ensures { Reads (λ u. u) result self.new.rest.now (mark_at mark self.old.rest.now) }
+    pub(crate) fn mark(&mut self, mark: u8) -> Result<(), Malformed>
+        ensures { ReadsExactly (λ u. u) result self.new.rest.now (mark_at mark self.old.rest.now) }
     {
         match self.rest {
             [byte, rest @ ..] if *byte == mark => {
                 self.rest = rest;
                 Ok(())
             }
-            _ => Err(ReadFault::Malformed),
+            _ => Err(Malformed),
         }
     }
 
@@ -266,16 +281,16 @@ impl<'a> Reader<'a> {
 
     /// Takes the bytes whose digits are in front, of which there are to be so many.
     #[tactic(auto, using(crate::proofs::Digits::sized_is), unfolding(crate::specs::Reading::bytes_at))]
-    fn fill(&mut self, count: usize, out: &mut [u8]) -> Result<(), ReadFault>
+    fn fill(&mut self, count: usize, out: &mut [u8]) -> Result<(), Malformed>
         requires { count ≡ 2 * length out.old }
-        ensures { Reads (λ _. out.new) result self.new.rest.now (bytes_at (just count) self.old.rest.now) }
+        ensures { ReadsExactly (λ _. out.new) result self.new.rest.now (bytes_at (just count) self.old.rest.now) }
     {
         if count_digits(self.rest) != count {
-            return Err(ReadFault::Malformed);
+            return Err(Malformed);
         }
         match hex::decode_to_slice(self.front(count), out) {
             Ok(()) => Ok(()),
-            Err(_) => Err(ReadFault::Malformed),
+            Err(_) => Err(Malformed),
         }
     }
 
@@ -297,71 +312,71 @@ impl<'a> Reader<'a> {
     }
 
     #[tactic(auto, unfolding(crate::specs::Reading::numeral_at))]
-    fn numeral(&mut self) -> Result<&'a [u8], ReadFault>
-        ensures read { Reads (λ b. b.now) result self.new.rest.now (numeral_at self.old.rest.now) }
+    fn numeral(&mut self) -> Result<&'a [u8], Malformed>
+        ensures read { ReadsExactly (λ b. b.now) result self.new.rest.now (numeral_at self.old.rest.now) }
         ensures digits { IfOk result (λ b. IsTrue (is_numeral b.now)) }
     {
         let count = count_decimals(self.rest);
         let digits = self.front(count);
         if !is_numeral(digits) {
-            return Err(ReadFault::Malformed);
+            return Err(Malformed);
         }
         Ok(digits)
     }
 
     /// Takes a number below 2 ^ 64.
     #[tactic(auto, unfolding(crate::specs::Reading::number_at))]
-    pub(crate) fn u64(&mut self) -> Result<u64, ReadFault>
-        ensures { Reads (λ n. n) result self.new.rest.now (number_at (2 ^ 64) self.old.rest.now) }
+    pub(crate) fn u64(&mut self) -> Result<u64, Malformed>
+        ensures { ReadsExactly (λ n. n) result self.new.rest.now (number_at (2 ^ 64) self.old.rest.now) }
     {
         let digits = self.numeral()?;
         match value_of(digits) {
             Some(number) => Ok(number),
-            None => Err(ReadFault::Malformed),
+            None => Err(Malformed),
         }
     }
 
     #[tactic(auto, unfolding(crate::specs::Reading::name_at, crate::specs::Reading::number_at))]
-    fn name(&mut self) -> Result<Form, ReadFault>
-        ensures { Reads (λ f. tree_of f) result self.new.rest.now (name_at self.old.rest.now) }
+    fn name(&mut self) -> Result<Form, Malformed>
+        ensures { ReadsExactly (λ f. tree_of f) result self.new.rest.now (name_at self.old.rest.now) }
     {
         let number = self.u32()?;
         match Name::new(number) {
             Some(name) => Ok(Form::Name(name)),
-            None => Err(ReadFault::Malformed),
+            None => Err(Malformed),
         }
     }
 
     /// Takes a number below 2 ^ 32.
     #[tactic(auto, unfolding(crate::specs::Reading::number_at))]
-    pub(crate) fn u32(&mut self) -> Result<u32, ReadFault>
-        ensures { Reads (λ n. n) result self.new.rest.now (number_at (2 ^ 32) self.old.rest.now) }
+    pub(crate) fn u32(&mut self) -> Result<u32, Malformed>
+        ensures { ReadsExactly (λ n. n) result self.new.rest.now (number_at (2 ^ 32) self.old.rest.now) }
     {
         let digits = self.numeral()?;
         match narrow(value_of(digits)) {
             Some(number) => Ok(number),
-            None => Err(ReadFault::Malformed),
+            None => Err(Malformed),
         }
     }
 
-    pub(crate) fn part(&mut self) -> Result<Part, ReadFault>
-        ensures { Reads (λ p. p) result self.new.rest.now (bytes_at (just 64) self.old.rest.now) }
+    pub(crate) fn part(&mut self) -> Result<Part, Malformed>
+        ensures { ReadsExactly (λ p. p) result self.new.rest.now (bytes_at (just 64) self.old.rest.now) }
     {
         let mut part = [0; 32];
         self.fill(64, &mut part)?;
         Ok(Part(part))
     }
 
-    fn nonce(&mut self) -> Result<Nonce, ReadFault>
-        ensures { Reads (λ n. n) result self.new.rest.now (bytes_at (just 32) self.old.rest.now) }
+    fn nonce(&mut self) -> Result<Nonce, Malformed>
+        ensures { ReadsExactly (λ n. n) result self.new.rest.now (bytes_at (just 32) self.old.rest.now) }
     {
         let mut nonce = [0; 16];
         self.fill(32, &mut nonce)?;
         Ok(Nonce(nonce))
     }
 
-    fn tag(&mut self) -> Result<Tag, ReadFault>
-        ensures { Reads (λ t. t) result self.new.rest.now (bytes_at (just 8) self.old.rest.now) }
+    fn tag(&mut self) -> Result<Tag, Malformed>
+        ensures { ReadsExactly (λ t. t) result self.new.rest.now (bytes_at (just 8) self.old.rest.now) }
     {
         let mut tag = [0; 4];
         self.fill(8, &mut tag)?;
@@ -380,8 +395,8 @@ impl<'a> Reader<'a> {
 
     /// Takes the rest of a key, of which the first part is known.
     #[tactic(auto, unfolding(crate::specs::Reading::second_at))]
-    fn second(&mut self, first: Part) -> Result<Key, ReadFault>
-        ensures { Reads (λ k. k) result self.new.rest.now (second_at first self.old.rest.now) }
+    fn second(&mut self, first: Part) -> Result<Key, Malformed>
+        ensures { ReadsExactly (λ k. k) result self.new.rest.now (second_at first self.old.rest.now) }
     {
         if !self.skips(b'+') {
             return Ok(Key::One(first));
@@ -391,8 +406,8 @@ impl<'a> Reader<'a> {
     }
 
     #[tactic(auto, unfolding(crate::specs::Reading::key_at))]
-    fn key(&mut self) -> Result<Key, ReadFault>
-        ensures { Reads (λ k. k) result self.new.rest.now (key_at self.old.rest.now) }
+    fn key(&mut self) -> Result<Key, Malformed>
+        ensures { ReadsExactly (λ k. k) result self.new.rest.now (key_at self.old.rest.now) }
     {
         self.mark(b'K')?;
         self.mark(b':')?;
@@ -406,7 +421,7 @@ impl<'a> Reader<'a> {
         ensures { Reads (λ f. tree_of f) result self.new.rest.now (atom_at 8192 letter self.old.rest.now) }
     {
         match letter {
-            b'N' => self.name(),
+            b'N' => Ok(self.name()?),
             b'T' => Ok(Form::Stamp(Stamp::Time(self.u64()?))),
             b'Q' => Ok(Form::Stamp(Stamp::Seq(self.u64()?))),
             b'R' => Ok(Form::Nonce(self.nonce()?)),

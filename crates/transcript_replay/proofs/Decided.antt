@@ -8,7 +8,8 @@ use Rattle.term_values.specs.declared.small.Key.{Key}
 use Rattle.term_values.specs.declared.small.Key.TheVariants.{One, Two}
 use Rattle.term_values.specs.declared.small.Stamp.{Stamp}
 use Rattle.term_values.specs.declared.small.Stamp.TheVariants.{Time, Seq}
-use Rattle.tagged_codec.specs.Grammar.{AllFit, Fits, IsInLimits, IsKey, IsStamp, spelling}
+use Rattle.term_values.specs.Limits.{AllFit, Fits, IsKey, IsStamp}
+use Rattle.tagged_codec.specs.Grammar.{IsInLimits, spelling}
 use Rattle.script_text.specs.LineReading.{IsGiveWords, number_in, plain_words}
 use Rattle.script_text.specs.Lines.{give, is_silent, said, silent, words_of}
 use Rattle.script_text.specs.declared.line.Line.{Line}

@@ -1,7 +1,7 @@
 use Rattle.std.proofs.Common.{◌+◌, arith}
 use Rattle.std.proofs.lemmas.Result.{err_from_is_err_and}
 use Rattle.script_text.specs.Reading.{byte_at, items_at, limits, term_at}
-use Rattle.script_text.proofs.Loop.{closes, goes_on, item_fails, mark_fails, marked, other_mark, too_many}
+use Rattle.script_text.proofs.Loop.{closes, goes_on, item_fails, marked, no_mark, other_mark, too_many}
 use Rattle.script_text.proofs.reading.Reader.+read.Goals as goal
 
 pub items-returns-in_err-item : goal.items-returns-in_err-item
@@ -12,7 +12,7 @@ items-returns-in_err-item t c =
 pub items-returns-in_err-byte : goal.items-returns-in_err-byte
 items-returns-in_err-byte t c =
     let p = err_from_is_err_and c.from_residual-in_err-byte.result c.from_residual-in_err-byte.ensures.1 in
-    rw (p.1, p.2) (mark_fails c.in_err-byte.field-0.0 (term_at limits c.args.sent.now c.args.below) c.loop.items.items c.loop.counter (record { rest = c.loop.self.rest.now; marks = c.loop.marks }) (record { rest = c.term.new.self.rest.now; marks = c.term.new.marks }) (record { rest = c.byte.new.self.rest.now; marks = c.term.new.marks }) c.byte.new.self.rest.now c.in_ok-item.item (items_at (term_at limits c.args.sent.now c.args.below) 32 (record { rest = c.args.self.now.rest.now; marks = c.args.marks.now })) c.loop-test.true c.in_ok-item.ensures c.in_err-byte.ensures c.loop.invariant)
+    rw (p.1, p.2) (no_mark (term_at limits c.args.sent.now c.args.below) c.loop.items.items c.loop.counter (record { rest = c.loop.self.rest.now; marks = c.loop.marks }) (record { rest = c.term.new.self.rest.now; marks = c.term.new.marks }) c.in_ok-item.item (items_at (term_at limits c.args.sent.now c.args.below) 32 (record { rest = c.args.self.now.rest.now; marks = c.args.marks.now })) c.loop-test.true c.in_ok-item.ensures c.in_err-byte.ensures c.loop.invariant)
 
 pub items-returns-in-41 : goal.items-returns-in-41
 items-returns-in-41 t c =

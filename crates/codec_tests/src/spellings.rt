@@ -296,9 +296,9 @@ fn looks_at_so_many_bytes(rt: HostRuntime) -> Result<(), Fail> {
 }
 
 /// The messages that the kept bytes hold.
-fn take_all(alloc: Global, deframer: &mut Deframer, taken: &mut Vec<Vec<u8>>) -> Result<(), Fail> {
+fn take_all(deframer: &mut Deframer, taken: &mut Vec<Vec<u8>>) -> Result<(), Fail> {
     for _ in 0..4 {
-        match deframer.next(alloc)? {
+        match deframer.next()? {
             Some(message) => taken.push(message)?,
             None => return Ok(()),
         }
@@ -321,9 +321,9 @@ fn takes_frames_however_cut(rt: HostRuntime) -> Result<(), Fail> {
         let mut deframer = Deframer::new(alloc);
         let mut taken = Vec::new(alloc);
         deframer.feed(&stream[..cut])?;
-        take_all(alloc, &mut deframer, &mut taken)?;
+        take_all(&mut deframer, &mut taken)?;
         deframer.feed(&stream[cut..])?;
-        take_all(alloc, &mut deframer, &mut taken)?;
+        take_all(&mut deframer, &mut taken)?;
         assert_eq!(rt; taken.len(), 3);
         assert_eq!(rt; taken[0].as_slice(), CHALLENGE.as_slice());
         assert_eq!(rt; taken[1].len(), 0);
@@ -336,14 +336,14 @@ fn takes_frames_however_cut(rt: HostRuntime) -> Result<(), Fail> {
 fn refuses_long_frames(rt: HostRuntime) -> Result<(), Fail> {
     let mut deframer = Deframer::new(rt.alloc());
     deframer.feed(&[0x20, 0x00, 0x61])?;
-    assert!(rt; deframer.next(rt.alloc())?.is_none());
+    assert!(rt; deframer.next()?.is_none());
     let mut deframer = Deframer::new(rt.alloc());
     deframer.feed(&[0x00, 0x01, 0x61, 0x20])?;
-    assert_eq!(rt; deframer.next(rt.alloc())?.map(|m| m.len()), Some(1));
-    assert!(rt; deframer.next(rt.alloc())?.is_none());
+    assert_eq!(rt; deframer.next()?.map(|m| m.len()), Some(1));
+    assert!(rt; deframer.next()?.is_none());
     deframer.feed(&[0x01, 0x61])?;
     for _ in 0..2 {
-        match deframer.next(rt.alloc()) {
+        match deframer.next() {
             Ok(_) => assert!(rt; false),
             Err(fault) => assert_eq!(rt; fault, FrameFault::TooLong { length: 8193 }),
         }

@@ -149,6 +149,18 @@ fn terms_are_read_and_printed(rt: HostRuntime) -> Result<(), Fail> {
 }
 
 #[test]
+fn a_term_past_the_spelling_is_no_term(rt: HostRuntime) -> Result<(), Fail> {
+    let alloc = rt.alloc();
+    let mut text = b"(B:".to_vec(alloc)?;
+    let digits = vec![in alloc; b'0'; 8192]?;
+    text.extend_from_slice(&digits)?;
+    text.extend_from_slice(b",B:")?;
+    text.extend_from_slice(&digits)?;
+    text.push(b')')?;
+    expect_term(&rt, alloc, &text, &[], Err(BadLine::Grammar))
+}
+
+#[test]
 fn references_are_replaced(rt: HostRuntime) -> Result<(), Fail> {
     let first = read_term(rt.alloc(), b"(N:1,X:61,(N:2))", &[])?;
     let sent = vec![in rt.alloc(); first]?;

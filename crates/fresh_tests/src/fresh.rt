@@ -2,33 +2,34 @@ use fresh_values::{Counted, Issuer, RngDraws, StampsSpent};
 use outside::{Draws, Failed};
 use rand_core::{Infallible, TryRng};
 use std::fmt;
-use std::test::Fail;
 use term_values::{Nonce, Part, Stamp, StampKind};
 
-/// A source that gives one byte over and over, so many times.
+/// A source that numbers its fills from 1. Each of four in turn fails where that is said of it; the others
+/// give their number over and over.
 #[derive(Drop)]
-struct Steady {
-    byte: u8,
-    left: u32,
+struct Numbered {
+    fills: u8,
+    fails: [bool; 4],
 }
 
-impl TryRng for Steady {
+impl TryRng for Numbered {
     type Error = fmt::Error;
 
     fn try_next_u32(&mut self) -> Result<u32, fmt::Error> {
-        Ok(u32::from(self.byte))
+        Ok(u32::from(self.fills))
     }
 
     fn try_next_u64(&mut self) -> Result<u64, fmt::Error> {
-        Ok(u64::from(self.byte))
+        Ok(u64::from(self.fills))
     }
 
     fn try_fill_bytes(&mut self, dst: &mut [u8]) -> Result<(), fmt::Error> {
-        if self.left == 0 {
+        let fails = self.fails[usize::from(self.fills % 4)];
+        self.fills = self.fills.saturating_add(1);
+        if fails {
             return Err(fmt::Error);
         }
-        self.left -= 1;
-        dst.fill(self.byte);
+        dst.fill(self.fills);
         Ok(())
     }
 }
@@ -54,6 +55,38 @@ impl TryRng for Sure {
         dst.fill(self.byte);
         Ok(())
     }
+}
+
+/// Whether a nonce, a part, a nonce and a part of the source are these, with so many faults in the end.
+fn gives<R: TryRng + Drop>(
+    source: R,
+    first: Result<Nonce, Failed>,
+    second: Result<Part, Failed>,
+    third: Result<Nonce, Failed>,
+    fourth: Result<Part, Failed>,
+    faults: u64,
+) -> bool {
+    let mut draws = RngDraws::new(source);
+    let is_first = draws.nonce() == first;
+    let is_second = draws.part() == second;
+    let is_third = draws.nonce() == third;
+    let is_fourth = draws.part() == fourth;
+    is_first && is_second && is_third && is_fourth && draws.faults() == faults
+}
+
+/// A source of which these fills fail.
+fn failing(fails: [bool; 4]) -> Numbered {
+    Numbered { fills: 0, fails }
+}
+
+/// A nonce that is this byte over and over.
+fn nonce(byte: u8) -> Result<Nonce, Failed> {
+    Ok(Nonce([byte; 16]))
+}
+
+/// A part that is this byte over and over.
+fn part(byte: u8) -> Result<Part, Failed> {
+    Ok(Part([byte; 32]))
 }
 
 #[test]
@@ -93,19 +126,19 @@ fn values_are_counted(rt: HostRuntime) {
 }
 
 #[test]
-fn a_source_is_drawn_from(rt: HostRuntime) -> Result<(), Fail> {
-    let mut draws = RngDraws::new(Steady { byte: 9, left: 2 });
-    assert_eq!(rt; draws.nonce(), Ok(Nonce([9; 16])));
-    assert_eq!(rt; draws.part(), Ok(Part([9; 32])));
-    assert_eq!(rt; draws.faults(), 0);
-    assert_eq!(rt; draws.nonce(), Err(Failed));
-    assert_eq!(rt; draws.part(), Err(Failed));
-    assert_eq!(rt; draws.faults(), 2);
-    let mut sure = RngDraws::new(Sure { byte: 5 });
-    for _ in 0..3 {
-        assert_eq!(rt; sure.nonce(), Ok(Nonce([5; 16])));
-        assert_eq!(rt; sure.part(), Ok(Part([5; 32])));
-    }
-    assert_eq!(rt; sure.faults(), 0);
-    Ok(())
+fn a_source_is_drawn_from(rt: HostRuntime) {
+    let none = Err(Failed);
+    let no_part = Err(Failed);
+    let late = failing([false, false, true, true]);
+    assert!(rt; gives(late, nonce(1), part(2), none, no_part, 2));
+    let sure = Sure { byte: 5 };
+    assert!(rt; gives(sure, nonce(5), part(5), nonce(5), part(5), 0));
+}
+
+#[test]
+fn a_failed_fill_is_not_asked_again(rt: HostRuntime) {
+    let first = failing([true, false, false, false]);
+    assert!(rt; gives(first, Err(Failed), part(2), nonce(3), part(4), 1));
+    let second = failing([false, true, false, false]);
+    assert!(rt; gives(second, nonce(1), Err(Failed), nonce(3), part(4), 1));
 }

@@ -1,0 +1,5 @@
+//! Tests of spellings and frames.
+#![tactic(auto)]
+
+#[cfg(test)]
+mod spellings;

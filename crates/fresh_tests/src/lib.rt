@@ -1,0 +1,5 @@
+//! Tests of issued stamps and draws.
+#![tactic(auto)]
+
+#[cfg(test)]
+mod fresh;

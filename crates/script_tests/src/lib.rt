@@ -1,0 +1,5 @@
+//! Tests of terms, lines and refusals as text.
+#![tactic(auto)]
+
+#[cfg(test)]
+mod scripts;
