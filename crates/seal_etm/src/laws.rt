@@ -1,0 +1,12 @@
+ghost use Rattle.std.specs.Prelude.{◌≡◌, ◌↔◌, true, Some};
+ghost use Rattle.term_values.specs.Trees.{Tree, blob};
+ghost use Rattle.term_values.specs.declared.small.Key.{Key};
+ghost use Rattle.seal_etm.specs.Blobs.{IsLongBlob};
+ghost use Rattle.seal_etm.specs.Layout.{check_bytes, checked, opened};
+
+/// A law: nothing but a blob of at least 48 bytes opens, and one blob alone checks a body under a key.
+pub fn blobs_alone_open_and_check()
+    ensures opens { (key : Key) (item body : Tree) → opened key item ≡ Some body → IsLongBlob item }
+    ensures checks { (key : Key) (body item : Tree) →
+        (checked key body item ≡ true) ↔ (item ≡ blob (check_bytes key body)) }
+{}

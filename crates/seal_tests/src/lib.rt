@@ -1,0 +1,7 @@
+//! Tests of sealing by encrypt-then-MAC.
+#![tactic(auto)]
+
+#[cfg(test)]
+mod macs;
+#[cfg(test)]
+mod seals;
