@@ -1,0 +1,5 @@
+//! Tests of key rings.
+#![tactic(auto)]
+
+#[cfg(test)]
+mod tests;
