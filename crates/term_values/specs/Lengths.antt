@@ -1,8 +1,12 @@
 -- How many bytes the layouts of a term take, added up.
-use Rattle.std.specs.Prelude.{ℕ, ◌+◌, length}
+use Rattle.std.specs.Prelude.{◌≡◌, ℕ, ◌+◌, ◌≤◌, length, Option, MatchOption}
 use Rattle.term_values.specs.declared.small.Key.{Key}
 use Rattle.term_values.specs.declared.small.Key.TheVariants.{One, Two}
 use Rattle.term_values.specs.Trees.{Tree, name, stamp, nonce, part, text, tag, blob, tuple, seal, check, Trees, none, item}
+
+-- what is left of so many bytes when some are taken; none where more are taken than there are
+abbrev pub IsLeft : ℕ → ℕ → Option ℕ → Type 0
+IsLeft most taken r = MatchOption r (most + 1 ≤ taken) (λ left. left + taken ≡ most)
 
 -- a kind byte and one part or two
 abbrev pub length_of_key : Key → ℕ

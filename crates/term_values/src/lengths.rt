@@ -1,11 +1,11 @@
-ghost use Rattle.std.specs.Prelude.{◌≡◌, ◌+◌, ◌≤◌, length, MatchOption};
-ghost use Rattle.term_values.specs.Lengths.{length_of_key};
+ghost use Rattle.std.specs.Prelude.{◌+◌, length};
+ghost use Rattle.term_values.specs.Lengths.{IsLeft, length_of_key};
 
 use crate::small::Key;
 
 /// What is left of so many bytes after a kind, two bytes of length and these bytes.
 pub(crate) fn left_by(most: u32, bytes: &[u8]) -> Option<u32>
-    ensures left { MatchOption result (most + 1 ≤ length bytes.now + 3) (λ left. left + (length bytes.now + 3) ≡ most) }
+    ensures left { IsLeft most (length bytes.now + 3) result }
 {
     let len = u32::try_from(bytes.len()).ok()?;
     most.checked_sub(3)?.checked_sub(len)
@@ -13,7 +13,7 @@ pub(crate) fn left_by(most: u32, bytes: &[u8]) -> Option<u32>
 
 /// What is left of so many bytes after a key.
 pub(crate) fn left_by_key(most: u32, key: &Key) -> Option<u32>
-    ensures left { MatchOption result (most + 1 ≤ length_of_key key.now) (λ left. left + length_of_key key.now ≡ most) }
+    ensures left { IsLeft most (length_of_key key.now) result }
 {
     match key {
         Key::One(_) => most.checked_sub(33),

@@ -1,7 +1,7 @@
-ghost use Rattle.std.specs.Prelude.{◌≡◌, ◌+◌, ◌-◌, ◌≤◌, ◌^◌, ◌↔◌, IsTrue, IfOk, min, MatchOption};
+ghost use Rattle.std.specs.Prelude.{◌≡◌, ◌+◌, ◌-◌, ◌≤◌, ◌^◌, ◌↔◌, IsTrue, IfOk, min};
 ghost use Rattle.std.specs.Option.{option_copied};
 ghost use Rattle.term_values.specs.Trees.{depth_of, item_of, Occurs, OccursBelow, StandsInKey};
-ghost use Rattle.term_values.specs.Lengths.{length_of};
+ghost use Rattle.term_values.specs.Lengths.{IsLeft, length_of};
 ghost use Rattle.term_values.specs.TreeOf.{tree_of};
 
 use crate::OutOfMemory;
@@ -247,7 +247,7 @@ impl Term {
     /// What is left of so many bytes after the layouts of this term.
     #[tactic(auto, using(crate::proofs::Trees::item_smaller))]
     fn left_of(&self, most: u32) -> Option<u32>
-        ensures left { MatchOption result (most + 1 ≤ length_of self.now) (λ left. left + length_of self.now ≡ most) }
+        ensures left { IsLeft most (length_of self.now) result }
     {
         match &self.form {
             Form::Name(_) | Form::Tag(_) => most.checked_sub(5),
