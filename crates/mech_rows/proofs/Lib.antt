@@ -13,4 +13,5 @@ pub mod Taking
 pub mod Welcomed
 pub mod Sending
 pub mod Stepping
+pub mod OneRun
 pub mod Lookups

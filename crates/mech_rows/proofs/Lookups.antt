@@ -9,6 +9,7 @@ use Rattle.mech_rows.specs.Verdict.{Noted, State}
 use Rattle.mech_rows.specs.Replies.{slots_in}
 use Rattle.mech_rows.specs.Noting.{slots_at}
 use Rattle.mech_rows.proofs.RowUse.{same_slot_refl, same_slot_is}
+use Rattle.mech_rows.proofs.OneRun.{row_once}
 
 -- the first entry answers for its slot
 found_first : (s : Slot) (t : Tree) (ns : Noted) → found ((s, t) ∷ ns) s ≡ Some t
@@ -54,8 +55,8 @@ unfolding state_with
 parts_are s t heads nexts notes =
     ap (λ (h : Head). state_with h s.next s.notes) heads ∙ ap (λ (k : ℕ). state_with t.head k s.notes) nexts ∙ ap (λ (ns : Noted). state_with t.head t.next ns) notes
 
-pub states_are : (s t : State) → Once s.notes → Once t.notes → s.head ≡ t.head → s.next ≡ t.next → slots_in s.notes ≡ slots_at s.head s.next → slots_in t.notes ≡ slots_at t.head t.next → ((u : Slot) → found s.notes u ≡ found t.notes u) → s ≡ t
-states_are s t o p heads nexts a b h =
+pub states_are : (s t : State) → s.head ≡ t.head → s.next ≡ t.next → slots_in s.notes ≡ slots_at s.head s.next → slots_in t.notes ≡ slots_at t.head t.next → ((u : Slot) → found s.notes u ≡ found t.notes u) → s ≡ t
+states_are s t heads nexts a b h =
     let slots : slots_at s.head s.next ≡ slots_at t.head t.next = rw (heads, nexts) refl in
-    let notes : s.notes ≡ t.notes = lookups_are s.notes t.notes o p (a ∙ slots ∙ sym b) h in
+    let notes : s.notes ≡ t.notes = lookups_are s.notes t.notes (row_once s.head s.next s.notes a) (row_once t.head t.next t.notes b) (a ∙ slots ∙ sym b) h in
     parts_are s t heads nexts notes

@@ -1,5 +1,5 @@
 -- What a body is made of: a tag, the names of the run, and slots.
-use Rattle.std.specs.Prelude.{◌≡◌, ℕ, ◌+◌, List, [], ◌∷◌, length, Option, Some, None, IsSome}
+use Rattle.std.specs.Prelude.{◌≡◌, ℕ, ◌+◌, List, [], ◌∷◌, length, Option, Some, None, IsSome, Result, MatchResult}
 use Rattle.term_values.specs.Trees.{Bytes, Tree, name, tag, tuple, count_of, item_of}
 use Rattle.mech_rows.specs.Heads.{Head}
 use Rattle.mech_rows.specs.declared.part_fault.PartFault.{PartFault}
@@ -53,3 +53,10 @@ IsBody h tagged count body = HasShape h tagged count body × TheseNames body 1 (
 abbrev pub IsFault : Head → Bytes → ℕ → Tree → PartFault → Type 0
 IsFault h tagged count body WrongShape = ¬ HasShape h tagged count body
 IsFault h tagged count body WrongNames = HasShape h tagged count body × (¬ TheseNames body 1 (names_in h))
+
+-- where the slots begin in a body of the run, or the fault of what is none
+abbrev pub IsPlaceOrFault : Head → Bytes → ℕ → Tree → Result ℕ PartFault → Type 0
+IsPlaceOrFault h tagged count body result =
+    MatchResult result
+    (λ place. (place ≡ 1 + length (names_in h)) × IsBody h tagged count body)
+    (IsFault h tagged count body)

@@ -1,5 +1,5 @@
 -- Who takes part in a run, and as what.
-use Rattle.std.specs.Prelude.{◌≡◌, ℕ, Bool, true, false, Option, Some, None}
+use Rattle.std.specs.Prelude.{◌≡◌, ℕ, Bool, true, false, Option, Some, None, MatchOption}
 use Rattle.mech_rows.specs.declared.kinds.Mech.{Mech}
 use Rattle.mech_rows.specs.declared.kinds.Role.{Role}
 use Rattle.mech_rows.specs.declared.kinds.Role.TheVariants.{A, B, P}
@@ -12,6 +12,10 @@ pub record Head : Type 0 where
   pub a : ℕ
   pub b : ℕ
   pub p : Option ℕ
+
+-- the head of these fields
+abbrev pub head_with : Mech → Role → ℕ → ℕ → Option ℕ → Head
+head_with mech role a b p = record { mech = mech; role = role; a = a; b = b; p = p }
 
 -- a name that is given; names are not 0
 abbrev pub name_or_none : Option ℕ → ℕ
@@ -41,3 +45,7 @@ RoleGiven _ _ = Unit {0}
 -- a third party is given exactly to a mechanism that has one, and role P only there
 abbrev pub IsHead : Head → Type 0
 IsHead h = (is_given h.p ≡ has_third h.mech) × RoleGiven h.role (is_given h.p)
+
+-- that head, and none exactly where it is no head of its mechanism
+abbrev pub IsHeadOrNone : Head → Option Head → Type 0
+IsHeadOrNone h result = MatchOption result (¬ IsHead h) (λ head. head ≡ h)

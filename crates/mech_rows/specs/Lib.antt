@@ -17,3 +17,4 @@ pub mod Openings
 pub mod Replies
 pub mod Moves
 pub mod Noting
+pub mod Laws

@@ -3,6 +3,7 @@ use Rattle.std.specs.Prelude.{ℕ, zero, suc, List, [], ◌∷◌, map, Option, 
 use Rattle.mech_rows.specs.declared.kinds.Mech.{Mech}
 use Rattle.mech_rows.specs.declared.kinds.Role.{Role}
 use Rattle.mech_rows.specs.declared.kinds.Slot.{Slot}
+use Rattle.mech_rows.specs.declared.kinds.Clear.{Clear}
 use Rattle.mech_rows.specs.declared.kinds.Cover.{Cover}
 use Rattle.mech_rows.specs.declared.kinds.Pass.{Pass}
 use Rattle.mech_rows.specs.declared.kinds.Row.{Row}
@@ -16,11 +17,22 @@ fill (suc n) (x ∷ xs) = Some x ∷ fill n xs
 
 -- a protected item, filled up
 abbrev pub filled_cover : rows.Cover → Cover
-filled_cover c = record { check = c.is_check; under = c.under; tag = c.tagged; slots = fill 4 c.slots; made = c.made; seen = c.seen }
+filled_cover c = record {
+  check = c.is_check;
+  under = c.under;
+  tag = c.tagged;
+  slots = fill 4 c.slots;
+  made = c.made;
+  seen = c.seen;
+}
+
+-- a pass of these items, with the places that are left
+abbrev pub pass_with : Role → Role → List Clear → List Cover → Pass
+pass_with from to clear covers = record { from = from; to = to; clear = fill 4 clear; covers = fill 2 covers }
 
 -- a pass, filled up
 abbrev pub filled_pass : rows.Pass → Pass
-filled_pass p = record { from = p.from; to = p.to; clear = fill 4 p.clear; covers = fill 2 (map filled_cover p.covers) }
+filled_pass p = pass_with p.from p.to p.clear (map filled_cover p.covers)
 
 -- passes, filled up
 abbrev pub filled_passes : List rows.Pass → List (Option Pass)

@@ -1,6 +1,6 @@
-ghost use Rattle.std.specs.Prelude.{◌≡◌, ◌+◌, ◌↔◌, IsTrue, MatchResult, is_some, length};
+ghost use Rattle.std.specs.Prelude.{◌≡◌, ◌+◌, ◌↔◌, IsTrue, is_some, length};
 ghost use Rattle.term_values.specs.Trees.{item_of, tag as tag_term};
-ghost use Rattle.mech_rows.specs.Bodies.{HasShape, IsBody, IsFault, TheseNames, count_in, name_at as name_of, names_in};
+ghost use Rattle.mech_rows.specs.Bodies.{HasShape, IsPlaceOrFault, TheseNames, count_in, name_at as name_of, names_in};
 
 use crate::head::RunHead;
 use crate::part_fault::PartFault;
@@ -15,7 +15,7 @@ use term_values::{Form, Name, Tag, Term};
 /// `WrongShape` for everything that isn't a tuple of this tag, a name for each party, and `count` more items;
 /// `WrongNames` for such a tuple with a name of another party.
 pub fn body_slots(body: &Term, tag: &Tag, head: &RunHead, count: usize) -> Result<usize, PartFault>
-    ensures place { MatchResult result (λ place. (place ≡ 1 + length (names_in head.now)) × IsBody head.now tag.now count body.now) (IsFault head.now tag.now count body.now) }
+    ensures place { IsPlaceOrFault head.now tag.now count body.now result }
 {
     if !has_shape(body, tag, head, count) {
         return Err(PartFault::WrongShape);

@@ -1,12 +1,13 @@
-ghost use Rattle.std.specs.Prelude.{◌≡◌, ◌↔◌, MatchOption};
-ghost use Rattle.mech_rows.specs.Heads.{Head, IsHead, me};
+ghost use Rattle.std.specs.Prelude.{◌≡◌};
+ghost use Rattle.mech_rows.specs.Heads.{Head, IsHead, IsHeadOrNone, head_with, me};
 ghost use Rattle.mech_rows.specs.Rows.{has_third as third_in};
 
 use crate::kinds::{Mech, Role};
 use std::marker::Model;
 use term_values::Name;
 
-/// Who takes part in a run, and as what. The third party is named exactly where the mechanism has one, and role P stands only there.
+/// Who takes part in a run, and as what. The third party is named exactly where the mechanism has
+/// one, and role P stands only there.
 #[derive(Clone, Copy, Debug, PartialEq, Eq)]
 pub struct RunHead {
     /// The mechanism.
@@ -37,7 +38,7 @@ impl RunHead {
     /// None where a third party is named and the mechanism has none, where it has one and none is named, and for role P
     /// where none is named; nowhere else.
     pub fn new(mech: Mech, role: Role, a: Name, b: Name, p: Option<Name>) -> Option<RunHead>
-        ensures cases { MatchOption result (¬ IsHead (record { mech = mech; role = role; a = a; b = b; p = p })) (λ head. head ≡ record { mech = mech; role = role; a = a; b = b; p = p }) }
+        ensures cases { IsHeadOrNone (head_with mech role a b p) result }
     {
         if p.is_some() != has_third(mech) {
             return None;

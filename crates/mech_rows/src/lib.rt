@@ -27,7 +27,9 @@ pub use bodies::body_slots;
 pub use got::Got;
 pub use head::RunHead;
 pub use kinds::{Clear, Cover, Kind, Mech, Pass, Role, Row, Slot, Under};
-pub use laws::{messages_are_said, notes_are_determined, row_facts, verdicts_are_fits};
+pub use laws::{
+    messages_are_said, notes_are_determined, notes_are_lookups, row_facts, verdicts_are_fits,
+};
 pub use notes::{Notes, Value};
 pub use opening::Opening;
 pub use outcome::Outcome;
