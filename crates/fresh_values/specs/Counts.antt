@@ -7,11 +7,6 @@ pub record Counts : Type 0 where
   pub place : ℕ
   pub faults : ℕ
 
--- draws from a source of random bytes: the source, and how many draws failed
-pub record Sourced (R : Type 0) : Type 0 where
-  pub source : R
-  pub faults : ℕ
-
 -- how many draws failed: none before the counter's end
 abbrev pub failed_draws : Counts → ℕ
 failed_draws c = if nat_lt c.place (2 ^ 64 - 1) then 0 else c.faults

@@ -4,22 +4,13 @@ ghost use Rattle.outside.specs.Tally.{one_more};
 
 use outside::{Draws, Failed};
 use rand_core::TryRng;
-use std::marker::Model;
 use term_values::{Nonce, Part};
 
-/// Draws from a source of random bytes, with a count of its errors. Contracts see the source and the count.
+/// Draws from a source of random bytes, with a count of its errors.
 #[derive(Drop)]
 pub struct RngDraws<R: TryRng> {
     source: R,
     faults: u64,
-}
-
-impl<R: TryRng> Model for RngDraws<R> {
-    ghost use Rattle.fresh_values.specs.Counts.{Sourced};
-
-    ghost Value = { Sourced R };
-
-    ghost view = { λ d. record { source = d.source; faults = d.faults } };
 }
 
 impl<R: TryRng> RngDraws<R> {
