@@ -1,5 +1,5 @@
 -- How far draws have moved on.
-use Rattle.std.proofs.Common.{◌≡◌, ◌≤◌, ◌+◌, ℕ, true, Option, Some, None, refl, ◌∙◌, arith}
+use Rattle.std.proofs.Common.{◌≡◌, ◌≤◌, ◌+◌, ℕ, Option, Some, None, refl, ◌∙◌, arith}
 use Rattle.outside.specs.Told.{Told}
 use Rattle.text_hooks.specs.Drawn.{MovedOn}
 

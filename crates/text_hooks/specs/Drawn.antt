@@ -1,5 +1,5 @@
 -- What a run draws for what it says, and in which order.
-use Rattle.std.specs.Prelude.{◌≡◌, ◌≢◌, ◌≤◌, ◌+◌, ℕ, Bool, true, not, ◌&&◌, is_some, List, [], ◌∷◌, ◌++◌, length, Option, Some, None, Result, IfSome, IfErr, OnOk, if◌then◌else◌, false, ◌⊎◌}
+use Rattle.std.specs.Prelude.{◌≡◌, ◌≢◌, ◌≤◌, ◌+◌, ℕ, Bool, true, is_some, List, [], ◌∷◌, ◌++◌, length, Option, Some, None, Result, IfSome, IfErr, OnOk, if◌then◌else◌, false, ◌⊎◌}
 use Rattle.term_values.specs.Trees.{Bytes, Tree, nonce, stamp, part, tuple, none}
 use Rattle.term_values.specs.declared.small.Stamp.{Stamp}
 use Rattle.mech_rows.specs.declared.kinds.Kind.{Kind}

@@ -1,5 +1,5 @@
 -- What a run knows, in the order of noting.
-use Rattle.std.specs.Prelude.{List, [], ◌∷◌, ◌++◌}
+use Rattle.std.specs.Prelude.{[], ◌∷◌, ◌++◌}
 use Rattle.term_values.specs.Trees.{nonce, stamp}
 use Rattle.mech_rows.specs.declared.kinds.Slot.TheVariants.{Ra, Rb, Ta}
 use Rattle.mech_rows.specs.Verdict.{Noted}

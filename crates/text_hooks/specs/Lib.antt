@@ -4,7 +4,10 @@ pub mod Parts
 pub mod Refused
 pub mod Names
 pub mod Phases
+pub mod Stands
+pub mod OneRun
 pub mod Leading
 pub mod Judged
 pub mod Shown
 pub mod Known
+pub mod Made

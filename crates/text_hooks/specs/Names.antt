@@ -1,5 +1,5 @@
 -- Who takes part, by the names.
-use Rattle.std.specs.Prelude.{ℕ, List, [], ◌∷◌, None, Some}
+use Rattle.std.specs.Prelude.{List, [], ◌∷◌, None, Some}
 use Rattle.term_values.specs.Trees.{Tree}
 use Rattle.term_values.specs.declared.small.Key.{Key}
 use Rattle.term_values.specs.declared.small.Key.TheVariants.{One}

@@ -1,5 +1,5 @@
 -- What messages show, and the texts of a run's own messages, in the order of noting.
-use Rattle.std.specs.Prelude.{List, [], ◌∷◌}
+use Rattle.std.specs.Prelude.{[], ◌∷◌}
 use Rattle.term_values.specs.Trees.{nonce, stamp, text}
 use Rattle.mech_rows.specs.declared.kinds.Slot.TheVariants.{Rb, Ta, X1, X2, X3, X4, X5}
 use Rattle.mech_rows.specs.Verdict.{Noted}

@@ -52,7 +52,8 @@ pub fn grown_by<K: Clone, V: Drop>(
     read: Result<V, Refusal>,
     item: Opening,
 ) -> Result<(K, V, Vec<Opening>), Refusal>
-    ensures grown { IfOk result (λ p. (K.is_clone known.now p.0) × (read ≡ Ok p.1) × (p.2.items ≡ item ∷ [])) }
+    ensures grown { IfOk result (λ p.
+        (K.is_clone known.now p.0) × (read ≡ Ok p.1) × (p.2.items ≡ item ∷ [])) }
     ensures refused { IfErr result (λ e. e ≢ Memory → read ≡ Err e) }
 {
     let (old, new) = grown(known, read)?;
@@ -70,7 +71,8 @@ pub fn judged_by<V: Drop>(
     read: Result<(V, Got), Refusal>,
     item: Opening,
 ) -> Result<(V, Vec<Opening>, Vec<Got>), Refusal>
-    ensures read { IfOk result (λ p. (g : GotView) × (read ≡ Ok (p.0, g)) × (p.1.items ≡ item ∷ []) × (p.2.items ≡ g ∷ [])) }
+    ensures read { IfOk result (λ p. (g : GotView)
+        × (read ≡ Ok (p.0, g)) × (p.1.items ≡ item ∷ []) × (p.2.items ≡ g ∷ [])) }
     ensures refused { IfErr result (λ e. e ≢ Memory → read ≡ Err e) }
 {
     let (new, got) = read?;
@@ -79,7 +81,8 @@ pub fn judged_by<V: Drop>(
     Ok((new, opened, got))
 }
 
-/// What is known, what was read of an item with a stamp to judge, and lists of that item and of that stamp.
+/// What is known, what was read of an item with a stamp to judge, and lists of that item and of
+/// that stamp.
 ///
 /// # Errors
 ///
@@ -91,7 +94,8 @@ pub fn grown_and_judged<K: Clone, V: Drop>(
     item: Opening,
 ) -> Result<(K, V, Vec<Opening>, Vec<Got>), Refusal>
     ensures grown { IfOk result (λ p. K.is_clone known.now p.0) }
-    ensures read { IfOk result (λ p. (g : GotView) × (read ≡ Ok (p.1, g)) × (p.2.items ≡ item ∷ []) × (p.3.items ≡ g ∷ [])) }
+    ensures read { IfOk result (λ p. (g : GotView)
+        × (read ≡ Ok (p.1, g)) × (p.2.items ≡ item ∷ []) × (p.3.items ≡ g ∷ [])) }
     ensures refused { IfErr result (λ e. e ≢ Memory → read ≡ Err e) }
 {
     let (new, opened, got) = judged_by(alloc, read, item)?;

@@ -6,6 +6,7 @@ mod delivery;
 mod growing;
 mod hook;
 mod known;
+mod laws;
 mod making;
 mod names;
 mod note_list;
@@ -27,6 +28,7 @@ pub use delivery::Delivery;
 pub use growing::{asked, grown, grown_and_judged, grown_by, judged_by, read_by, said_still};
 pub use hook::{Hook, Judgement};
 pub use known::{Asked, Challenged, Challenging, Sent, Stamped};
+pub use laws::states_are_runs;
 pub use making::{
     SlotValue, body_of, message_of, name_term, nonce_term, stamp_term, tag_term, text_term,
 };

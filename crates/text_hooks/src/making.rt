@@ -1,10 +1,12 @@
-ghost use Rattle.std.specs.Prelude.{◌≡◌, ◌+◌, ◌*◌, ◌≤◌, ◌∷◌, ◌++◌, [], map, IfOk, IfErr, OnOk, length};
+ghost use Rattle.std.specs.Prelude.{◌≡◌, ◌+◌, ◌*◌, ◌≤◌, ◌∷◌, ◌++◌, []};
+ghost use Rattle.std.specs.Prelude.{map, IfOk, IfErr, OnOk, length};
 ghost use Rattle.term_values.specs.Trees.{tuple, trees, tag, name, nonce, stamp, text, depth_of};
 ghost use Rattle.term_values.specs.Lengths.{length_of};
 ghost use Rattle.term_values.specs.Limits.{Fits};
 ghost use Rattle.tagged_codec.specs.Grammar.{IsInLimits};
 ghost use Rattle.mech_rows.specs.declared.refusal.Refusal.TheVariants.{Memory};
-ghost use Rattle.text_hooks.specs.Parts.{value_term, body_of, IsSmall, AreSmall, AreMadeItems, IsFlat, items_in};
+ghost use Rattle.text_hooks.specs.Parts.{AreMadeItems, AreSmall, IsFlat, IsSmall};
+ghost use Rattle.text_hooks.specs.Parts.{body_of, items_in, value_term};
 
 use mech_rows::{Opening, Refusal};
 use std::alloc::Global;

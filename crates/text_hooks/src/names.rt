@@ -58,7 +58,8 @@ impl Three {
     /// The names of a run of three. Takes no memory.
     pub fn of(head: &RunHead) -> Three
         requires third { is_given head.now.p ≡ true }
-        ensures names { (result.a ≡ head.now.a) × (result.b ≡ head.now.b) × (Some result.p ≡ head.now.p) }
+        ensures names { (result.a ≡ head.now.a) × (result.b ≡ head.now.b)
+            × (Some result.p ≡ head.now.p) }
     {
         match head.p {
             Some(p) => Three {

@@ -22,7 +22,8 @@ pub trait Shown {
     /// Want of memory alone.
     fn note(&self, alloc: Global, notes: &mut NoteList) -> Result<(), OutOfMemory>
         requires kinds { are_of_kinds notes.old.items ≡ true }
-        ensures noted { OnOk result (terms_of notes.new.items ≡ terms_of notes.old.items ++ notes_of self.now) }
+        ensures noted { OnOk result
+            (terms_of notes.new.items ≡ terms_of notes.old.items ++ notes_of self.now) }
         ensures kinds { OnOk result (are_of_kinds notes.new.items ≡ true) };
 }
 

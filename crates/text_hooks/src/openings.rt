@@ -1,7 +1,9 @@
-ghost use Rattle.std.specs.Prelude.{◌≡◌, ◌≢◌, ◌∷◌, [], true, false, Some, None, is_some, IfOk, IfErr};
+ghost use Rattle.std.specs.Prelude.{◌≡◌, ◌≢◌, ◌∷◌, [], true, false, Some, None, IfOk, IfErr};
+ghost use Rattle.std.specs.Prelude.{is_some};
 ghost use Rattle.term_values.specs.declared.small.Key.TheVariants.{One};
 ghost use Rattle.std.specs.Option.{option_copied};
 ghost use Rattle.text_hooks.specs.Parts.{IsFlat};
+ghost use Rattle.text_hooks.specs.Made.{IsOpened, IsTested};
 ghost use Rattle.mech_rows.specs.Rings.{keys_in};
 ghost use Rattle.mech_rows.specs.Runs.{bytes_or_empty};
 ghost use Rattle.mech_rows.specs.declared.refusal.Refusal.TheVariants.{Memory, Unopened};
@@ -56,8 +58,9 @@ pub fn open_item<S: Sealer>(
     item: &Term,
     part: u8,
 ) -> Result<Opening, Refusal>
-    ensures opened { IfOk result (λ o. (S.opens key item.now ≡ Some o.body) × (o.key ≡ key) × (o.item ≡ item.now)) }
-    ensures unopened { IfErr result (λ e. e ≢ Memory → (S.opens key item.now ≡ None) × (e ≡ Unopened part)) }
+    ensures opened { IfOk result (IsOpened S.opens key item.now) }
+    ensures unopened { IfErr result (λ e. e ≢ Memory →
+        (S.opens key item.now ≡ None) × (e ≡ Unopened part)) }
 {
     match sealer.open(alloc, &key, item)? {
         Some(body) => opening(alloc, key, item, body),
@@ -65,12 +68,13 @@ pub fn open_item<S: Sealer>(
     }
 }
 
-/// Tests whether an item of a message checks the body, which has a spelling of at most 2,048 bytes; `part` is its place among
-/// the protected items, from 1.
+/// Tests whether an item of a message checks the body, which has a spelling of at most 2,048 bytes;
+/// `part` is its place among the protected items, from 1.
 ///
 /// # Errors
 ///
-/// `Unopened` of that part exactly where the item doesn't check the body under the key; want of memory.
+/// `Unopened` of that part exactly where the item doesn't check the body under the key; want of
+/// memory.
 pub fn test_item<S: Sealer>(
     alloc: Global,
     sealer: &S,
@@ -80,8 +84,9 @@ pub fn test_item<S: Sealer>(
     part: u8,
 ) -> Result<Opening, Refusal>
     requires flat { IsFlat body }
-    ensures tested { IfOk result (λ o. (S.checks key body item.now ≡ true) × (o ≡ record { key = key; item = item.now; body = body })) }
-    ensures unopened { IfErr result (λ e. e ≢ Memory → (S.checks key body item.now ≡ false) × (e ≡ Unopened part)) }
+    ensures tested { IfOk result (IsTested S.checks key body item.now) }
+    ensures unopened { IfErr result (λ e. e ≢ Memory →
+        (S.checks key body item.now ≡ false) × (e ≡ Unopened part)) }
 {
     if !sealer.test(alloc, &key, &body, item)? {
         return Err(Refusal::Unopened { part });

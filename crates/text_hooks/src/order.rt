@@ -30,7 +30,8 @@ fn add_found(
 ) -> Result<(), OutOfMemory>
     requires kinds { are_of_kinds values.now ≡ true }
     requires so_far { are_of_kinds notes.old.items ≡ true }
-    ensures noted { OnOk result (terms_of notes.new.items ≡ terms_of notes.old.items ++ with_slot slot (found (terms_of values.now) slot) []) }
+    ensures noted { OnOk result (terms_of notes.new.items
+        ≡ terms_of notes.old.items ++ with_slot slot (found (terms_of values.now) slot) []) }
     ensures kinds { OnOk result (are_of_kinds notes.new.items ≡ true) }
 {
     match find(values, slot) {
@@ -46,7 +47,8 @@ fn add_found(
 #[tactic(auto, using(crate::proofs::Ordering::one_more))]
 fn chosen(alloc: Global, values: &[(Slot, Value)], slots: &[Slot]) -> Result<NoteList, OutOfMemory>
     requires kinds { are_of_kinds values.now ≡ true }
-    ensures notes { IfOk result (λ ns. terms_of ns.items ≡ noted_among (terms_of values.now) slots.now) }
+    ensures notes { IfOk result (λ ns.
+        terms_of ns.items ≡ noted_among (terms_of values.now) slots.now) }
     ensures kinds { IfOk result (λ ns. are_of_kinds ns.items ≡ true) }
 {
     let mut notes = Vec::new(alloc);

@@ -1,4 +1,5 @@
-ghost use Rattle.std.specs.Prelude.{◌≡◌, true, false};
+ghost use Rattle.std.specs.Prelude.{◌≡◌, true};
+ghost use Rattle.text_hooks.specs.Stands.{after_last, before_receiving, before_sending};
 
 /// Where a run stands in its mechanism.
 #[derive(Clone, Copy, Debug, PartialEq, Eq)]
@@ -18,7 +19,7 @@ pub struct Phase {
 impl Phase {
     /// Before a pass that it sends. Takes no memory.
     pub fn sends(next: u8) -> Phase
-        ensures phase { result ≡ record { next = next; sends = true; receives = false; done = false; stamps = false } }
+        ensures phase { result ≡ before_sending next }
     {
         Phase {
             next,
@@ -31,7 +32,7 @@ impl Phase {
 
     /// Before a pass that it receives. Takes no memory.
     pub fn receives(next: u8) -> Phase
-        ensures phase { result ≡ record { next = next; sends = false; receives = true; done = false; stamps = false } }
+        ensures phase { result ≡ before_receiving next }
     {
         Phase {
             next,
@@ -44,7 +45,7 @@ impl Phase {
 
     /// After the last pass. Takes no memory.
     pub fn done(next: u8) -> Phase
-        ensures phase { result ≡ record { next = next; sends = false; receives = false; done = true; stamps = false } }
+        ensures phase { result ≡ after_last next }
     {
         Phase {
             next,

@@ -194,12 +194,13 @@ fn same_names(items: &[Term], names: &[Name]) -> bool
     true
 }
 
-/// The items of a message, its tag first. `seen` says of each protected item whether the receiver opens or tests it; `b` is
-/// the name of B. Takes no memory.
+/// The items of a message, its tag first. `seen` says of each protected item whether the receiver
+/// opens or tests it; `b` is the name of B. Takes no memory.
 ///
 /// # Errors
 ///
-/// `WrongPass` where the tag is another one, then `WrongShape` and `WrongNames` of part 0; the first that holds.
+/// `WrongPass` where the tag is another one, then `WrongShape` and `WrongNames` of part 0; the
+/// first that holds.
 pub fn read_message<'a>(
     term: &'a Term,
     tag: &Tag,
@@ -209,7 +210,9 @@ pub fn read_message<'a>(
 ) -> Result<&'a [Term], Refusal>
     requires few { length clear.now ≤ 4 }
     requires two { length seen.now ≤ 2 }
-    ensures exact { MatchResult result (λ ts. message_items tag.now b clear.now seen.now term.now ≡ Ok ts.now) (λ e. message_items tag.now b clear.now seen.now term.now ≡ Err e) }
+    ensures exact { MatchResult result
+        (λ ts. message_items tag.now b clear.now seen.now term.now ≡ Ok ts.now)
+        (λ e. message_items tag.now b clear.now seen.now term.now ≡ Err e) }
     ensures length { IfOk result (λ ts. length ts.now ≡ length clear.now + length seen.now + 1) }
     ensures kinds { IfOk result (λ ts. are_clear ts.now 1 clear.now ≡ true) }
 {
@@ -229,8 +232,8 @@ pub fn read_message<'a>(
     Ok(items)
 }
 
-/// The items of a body, its tag first. `part` is the place of its item among the protected items of the message, from 1.
-/// Takes no memory.
+/// The items of a body, its tag first. `part` is the place of its item among the protected items of
+/// the message, from 1. Takes no memory.
 ///
 /// # Errors
 ///
@@ -244,7 +247,9 @@ pub fn read_body<'a>(
 ) -> Result<&'a [Term], Refusal>
     requires three { length names.now ≤ 3 }
     requires four { length slots.now ≤ 4 }
-    ensures exact { MatchResult result (λ ts. body_items tag.now names.now slots.now part body.now ≡ Ok ts.now) (λ e. body_items tag.now names.now slots.now part body.now ≡ Err e) }
+    ensures exact { MatchResult result
+        (λ ts. body_items tag.now names.now slots.now part body.now ≡ Ok ts.now)
+        (λ e. body_items tag.now names.now slots.now part body.now ≡ Err e) }
     ensures length { IfOk result (λ ts. length ts.now ≡ length names.now + length slots.now + 1) }
     ensures kinds { IfOk result (λ ts. are_kinds ts.now (length names.now + 1) slots.now ≡ true) }
 {

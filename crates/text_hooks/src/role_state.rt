@@ -1,14 +1,18 @@
-ghost use Rattle.std.specs.Prelude.{◌≡◌, ◌≢◌, ◌≤◌, ◌↔◌, Bool, true, false, [], Ok, Err, suc, IsTrue, OnOk, IfOk, IfErr, is_some, is_none, ◌⊎◌};
+ghost use Rattle.std.specs.Prelude.{◌≡◌, ◌≢◌, ◌≤◌, ◌↔◌, ◌⊎◌, Bool, true, false, [], Ok, Err, suc};
+ghost use Rattle.std.specs.Prelude.{IsTrue, OnOk, IfOk, IfErr, is_some, is_none};
 ghost use Rattle.tagged_codec.specs.Grammar.{IsInLimits};
 ghost use Rattle.outside.specs.Causes.{Rose};
 ghost use Rattle.mech_rows.specs.Notes.{are_of_kinds, terms_of};
 ghost use Rattle.mech_rows.specs.Heads.{Head};
 ghost use Rattle.mech_rows.specs.Openings.{has_parts, opened_state};
-ghost use Rattle.mech_rows.specs.Replies.{sends, sends_first, receives, needs_stamp, has_acted, in_order, run_verdict, Says};
+ghost use Rattle.mech_rows.specs.Laws.{HasRowSlots};
+ghost use Rattle.mech_rows.specs.Replies.{Says, has_acted, in_order, needs_stamp, receives};
+ghost use Rattle.mech_rows.specs.Replies.{run_verdict, sends, sends_first};
 ghost use Rattle.mech_rows.specs.Rings.{keys_in};
 ghost use Rattle.mech_rows.specs.Rows.{row_of};
 ghost use Rattle.mech_rows.specs.Runs.{nth};
-ghost use Rattle.mech_rows.specs.declared.refusal.Refusal.TheVariants.{Memory, WrongPass, DrawFault};
+ghost use Rattle.mech_rows.specs.declared.refusal.Refusal.TheVariants.{DrawFault, Memory};
+ghost use Rattle.mech_rows.specs.declared.refusal.Refusal.TheVariants.{WrongPass};
 ghost use Rattle.text_hooks.specs.Drawn.{DrawnFor, MovedFor, HasSayCause};
 ghost use Rattle.text_hooks.specs.Leading.{Leads, Refuses};
 ghost use Rattle.text_hooks.specs.Phases.{phase_of, stamps_next};
@@ -47,8 +51,9 @@ pub struct Reply<T> {
     pub sealed: Vec<Opening>,
 }
 
-/// A typed state of a role in a mechanism: the run that it stands for, what it takes, and what it says. The ring has the parts that
-/// the role uses. A role gives `begin`, `head`, `copy`, `same`, `note`, `phase`, `read` and `speak`; the others are made of these.
+/// A typed state of a role in a mechanism: the run that it stands for, what it takes, and what it
+/// says. The ring has the parts that the role uses. A role gives `begin`, `head`, `copy`, `same`,
+/// `note`, `phase`, `read` and `speak`; the others are made of these.
 pub trait RoleState: Stated {
     /// The heads of the runs that it stands for.
     ghost plays: { Head → Bool };
@@ -91,29 +96,29 @@ pub trait RoleState: Stated {
     /// Where the run stands. Takes no memory.
     fn phase(&self) -> Phase
         ensures phase { result ≡ phase_of (Self.state_of self.now) }
-        ensures acted { has_acted (Self.state_of self.now) ≡ true };
+        ensures acted { has_acted (Self.state_of self.now) ≡ true }
+        ensures slots { HasRowSlots (Self.state_of self.now) };
 
     /// Judges a message of the next pass, and takes it where it fits.
     ///
     /// # Errors
     ///
-    /// The first refusal of the verdict, 4 to 8 and 14; `WrongPass` where its role doesn't receive the next pass; want of memory.
+    /// The first refusal of the verdict, 4 to 8 and 14; `WrongPass` where its role doesn't receive
+    /// the next pass; want of memory.
     fn read<S: Sealer>(&self, delivery: &Delivery<S>) -> Result<Taken<Self>, Refusal>
         requires parts { has_parts delivery.now.ring.now (Self.state_of self.now).head ≡ true }
         requires limits { IsInLimits delivery.now.term.now }
-        ensures fit { IfOk result (λ t. Leads S.opens S.checks delivery.now.ring.now delivery.now.hook.now.rules.items
-            (Self.state_of self.now) delivery.now.term.now
-            (Self.state_of t.after) t.opened.items t.got.items) }
-        ensures refused { IfErr result (λ e. e ≢ Memory →
-            Refuses S.opens S.checks delivery.now.ring.now delivery.now.hook.now.rules.items
-            (Self.state_of self.now) delivery.now.term.now e) };
+        ensures fit { IfOk result (λ t. Leads S.opens S.checks delivery.now
+            (Self.state_of self.now) (Self.state_of t.after) t.opened.items t.got.items) }
+        ensures refused { IfErr result
+            (Refuses S.opens S.checks delivery.now (Self.state_of self.now)) };
 
     /// Says the message of its next pass. A stamp is given exactly where one is needed.
     ///
     /// # Errors
     ///
-    /// `WrongPass` where its role doesn't send the next pass; `DrawFault` where a draw failed, and the count of faults rose; want
-    /// of memory, where it stayed.
+    /// `WrongPass` where its role doesn't send the next pass; `DrawFault` where a draw failed, and
+    /// the count of faults rose; want of memory, where it stayed.
     fn speak<S: Sealer, D: Draws>(
         &self,
         alloc: Global,
@@ -125,13 +130,16 @@ pub trait RoleState: Stated {
         requires parts { has_parts ring.now (Self.state_of self.now).head ≡ true }
         requires stamp { is_some stamp ≡ needs_stamp (Self.state_of self.now) }
         ensures sending { OnOk result (sends (Self.state_of self.now) ≡ true) }
-        ensures says { IfOk result (λ r. Says S.opens S.checks (keys_in ring.now) (Self.state_of self.now)
-            (Self.state_of r.after) r.message r.sealed.items stamp) }
+        ensures says { IfOk result (λ r. Says S.opens S.checks (keys_in ring.now)
+            (Self.state_of self.now) (Self.state_of r.after) r.message r.sealed.items stamp) }
         ensures limits { IfOk result (λ r. IsInLimits r.message) }
-        ensures drawn { IfOk result (λ r. DrawnFor S.iv_of (S.wants_iv sealer.now) (D.told draws.old) (D.told draws.new)
-            stamp (Self.state_of self.now) (Self.state_of r.after) r.sealed.items) }
+        ensures drawn { IfOk result (λ r. DrawnFor S.iv_of (S.wants_iv sealer.now)
+            (D.told draws.old) (D.told draws.new) stamp
+            (Self.state_of self.now) (Self.state_of r.after) r.sealed.items) }
         ensures moved { MovedFor (Self.state_of self.now) (D.told draws.old) (D.told draws.new) }
-        ensures cause { HasSayCause (sends (Self.state_of self.now)) (D.fault_count draws.old) (D.fault_count draws.new) result };
+        ensures undrawn { sends (Self.state_of self.now) ≡ false → draws.new ≡ draws.old }
+        ensures cause { HasSayCause (sends (Self.state_of self.now))
+            (D.fault_count draws.old) (D.fault_count draws.new) result };
 
     /// What the run has noted, in the order of the slots.
     ///
@@ -178,7 +186,8 @@ pub trait RoleState: Stated {
 
     /// Whether its role has acted in the last pass. Takes no memory.
     final fn is_done(&self) -> bool
-        ensures done { result ≡ is_none (nth (row_of (Self.state_of self.now).head.mech) (Self.state_of self.now).next) }
+        ensures done { result ≡ is_none
+            (nth (row_of (Self.state_of self.now).head.mech) (Self.state_of self.now).next) }
     {
         self.phase().done
     }
@@ -203,7 +212,8 @@ pub trait RoleState: Stated {
     ///
     /// # Errors
     ///
-    /// The first refusal of the verdict, 4 to 8 and 14; `WrongPass` where its role doesn't receive the next pass; want of memory.
+    /// The first refusal of the verdict, 4 to 8 and 14; `WrongPass` where its role doesn't receive
+    /// the next pass; want of memory.
     final fn take<S: Sealer>(
         &self,
         alloc: Global,
@@ -215,14 +225,19 @@ pub trait RoleState: Stated {
         requires parts { has_parts ring.now (Self.state_of self.now).head ≡ true }
         requires limits { IsInLimits term.now }
         ensures acted { has_acted (Self.state_of self.now) ≡ true }
-        ensures fit { IfOk result (λ t. run_verdict S.opens S.checks (allowed hook.now.rules.items) (keys_in ring.now)
-            (Self.state_of self.now) term.now ≡ Ok (record {
+        ensures fit { IfOk result (λ t. run_verdict S.opens S.checks
+            (allowed hook.now.rules.items) (keys_in ring.now) (Self.state_of self.now) term.now
+            ≡ Ok (record {
               notes = (Self.state_of t.after).notes;
               opened = t.opened.items;
               got = t.got.items;
             })) }
-        ensures same_head { IfOk result (λ t. (Self.state_of t.after).head ≡ (Self.state_of self.now).head) }
-        ensures moves { IfOk result (λ t. (Self.state_of t.after).next ≡ suc (Self.state_of self.now).next) }
+        ensures same_head { IfOk result (λ t.
+            (Self.state_of t.after).head ≡ (Self.state_of self.now).head) }
+        ensures moves { IfOk result (λ t.
+            (Self.state_of t.after).next ≡ suc (Self.state_of self.now).next) }
+        ensures receiving { IfErr result (λ e. e ≡ Memory →
+            receives (Self.state_of self.now) ≡ true) }
         ensures refused { IfErr result (λ e. e ≢ Memory →
             run_verdict S.opens S.checks (allowed hook.now.rules.items) (keys_in ring.now)
             (Self.state_of self.now) term.now ≡ Err e) }
@@ -243,8 +258,8 @@ pub trait RoleState: Stated {
     ///
     /// # Errors
     ///
-    /// `WrongPass`, only where its role doesn't send the next pass; `DrawFault`, only where the count of faults rose in this
-    /// call; want of memory, only where the count stayed.
+    /// `WrongPass`, only where its role doesn't send the next pass; `DrawFault`, only where the
+    /// count of faults rose in this call; want of memory, only where the count stayed.
     #[tactic(auto, using(crate::proofs::Draws::not_moved))]
     final fn say<S: Sealer, D: Draws>(
         &self,
@@ -257,15 +272,18 @@ pub trait RoleState: Stated {
         requires parts { has_parts ring.now (Self.state_of self.now).head ≡ true }
         requires stamp { is_some stamp ≡ needs_stamp (Self.state_of self.now) }
         ensures sending { OnOk result (sends (Self.state_of self.now) ≡ true) }
-        ensures says { IfOk result (λ r. Says S.opens S.checks (keys_in ring.now) (Self.state_of self.now)
-            (Self.state_of r.after) r.message r.sealed.items stamp) }
+        ensures says { IfOk result (λ r. Says S.opens S.checks (keys_in ring.now)
+            (Self.state_of self.now) (Self.state_of r.after) r.message r.sealed.items stamp) }
         ensures limits { IfOk result (λ r. IsInLimits r.message) }
-        ensures drawn { IfOk result (λ r. DrawnFor S.iv_of (S.wants_iv sealer.now) (D.told draws.old) (D.told draws.new)
-            stamp (Self.state_of self.now) (Self.state_of r.after) r.sealed.items) }
+        ensures drawn { IfOk result (λ r. DrawnFor S.iv_of (S.wants_iv sealer.now)
+            (D.told draws.old) (D.told draws.new) stamp
+            (Self.state_of self.now) (Self.state_of r.after) r.sealed.items) }
         ensures moved { MovedFor (Self.state_of self.now) (D.told draws.old) (D.told draws.new) }
         ensures later { D.fault_count draws.old ≤ D.fault_count draws.new }
+        ensures undrawn { sends (Self.state_of self.now) ≡ false → draws.new ≡ draws.old }
         ensures quiet { OnOk result (D.fault_count draws.new ≡ D.fault_count draws.old) }
-        ensures memory { IfErr result (λ e. e ≡ Memory → D.fault_count draws.new ≡ D.fault_count draws.old) }
+        ensures memory { IfErr result (λ e. e ≡ Memory →
+            D.fault_count draws.new ≡ D.fault_count draws.old) }
         ensures refused { IfErr result (λ e. e ≢ Memory →
             ((sends (Self.state_of self.now) ≡ false) × (e ≡ WrongPass))
             ⊎ ((e ≡ DrawFault) × Rose (D.fault_count draws.old) (D.fault_count draws.new))) }

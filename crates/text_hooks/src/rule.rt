@@ -63,8 +63,8 @@ fn is_admitted(rules: &[Rule], mech: Mech, slot: Slot, text: &[u8]) -> bool
         .any(|rule| rule.names(mech, slot) && rule.admits(text))
 }
 
-/// Whether the rules let this text stand in this slot of this mechanism: no rule speaks of the slot,
-/// or one that does admits the text. It takes no memory.
+/// Whether the rules let this text stand in this slot of this mechanism: no rule speaks of the
+/// slot, or one that does admits the text. It takes no memory.
 pub fn judge_by(rules: &[Rule], mech: Mech, slot: Slot, text: &[u8]) -> bool
     ensures { result ≡ allowed rules.now mech slot text.now }
 {

@@ -4,6 +4,7 @@ ghost use Rattle.tagged_codec.specs.Grammar.{IsInLimits};
 ghost use Rattle.mech_rows.specs.declared.refusal.Refusal.TheVariants.{Memory};
 ghost use Rattle.text_hooks.specs.Parts.{AreSmall, IsMadeItem, IsFlat, shown_value};
 ghost use Rattle.text_hooks.specs.Drawn.{HasDrawCause, MovedOn, NoncesAre};
+ghost use Rattle.text_hooks.specs.Made.{IsCheckOf, IsNonceOf, IsSealOf};
 ghost use Rattle.mech_rows.specs.Replies.{first_item};
 
 use crate::making::{SlotValue, message_of, nonce_term, tag_term, text_term, tuple_of, value_term};
@@ -43,8 +44,8 @@ fn with_item(alloc: Global, shown: Vec<Term>, item: Opening) -> Result<Said, Ref
     })
 }
 
-/// The message of a tag, a clear text, and an item that seals the body under the key, with a nonce that it draws where the sealer
-/// wants one.
+/// The message of a tag, a clear text, and an item that seals the body under the key, with a nonce
+/// that it draws where the sealer wants one.
 ///
 /// # Errors
 ///
@@ -59,11 +60,12 @@ pub fn say_sealed<S: Sealer, D: Draws>(
     clear: &Text,
 ) -> Result<Said, Refusal>
     requires flat { IsFlat body }
-    ensures sealed { IfOk result (λ s. (S.opens key s.item.item ≡ Some body) × (s.item.key ≡ key) × (s.item.body ≡ body)) }
-    ensures message { IfOk result (λ s. s.message ≡ tuple (trees (tag head ∷ text clear.now ∷ s.item.item ∷ []))) }
+    ensures sealed { IfOk result (λ s. IsSealOf S.opens key body s.item) }
+    ensures message { IfOk result (λ s.
+        s.message ≡ tuple (trees (tag head ∷ text clear.now ∷ s.item.item ∷ []))) }
     ensures limits { IfOk result (λ s. IsInLimits s.message) }
-    ensures nonces { IfOk result (λ s. IfSome (D.told draws.old) (λ t.
-        NoncesAre S.iv_of t (if S.wants_iv sealer.now then s.item ∷ [] else []) (D.told draws.new))) }
+    ensures nonces { IfOk result (λ s.
+        IsNonceOf S.iv_of (S.wants_iv sealer.now) (D.told draws.old) (D.told draws.new) s.item) }
     ensures moved { MovedOn 1 (D.told draws.old) (D.told draws.new) }
     ensures cause { HasDrawCause (D.fault_count draws.old) (D.fault_count draws.new) result }
 {
@@ -72,7 +74,8 @@ pub fn say_sealed<S: Sealer, D: Draws>(
     with_item(alloc, shown, item)
 }
 
-/// The terms that stand clear before a check: the tag, a fresh value where there is one, the covered text and the clear one.
+/// The terms that stand clear before a check: the tag, a fresh value where there is one, the
+/// covered text and the clear one.
 fn before_check(
     alloc: Global,
     head: Tag,
@@ -80,7 +83,8 @@ fn before_check(
     covered: &Text,
     clear: &Text,
 ) -> Result<Vec<Term>, Refusal>
-    ensures shown { IfOk result (λ ts. ts.items ≡ tag head ∷ (shown_value fresh ++ text covered.now ∷ text clear.now ∷ [])) }
+    ensures shown { IfOk result (λ ts.
+        ts.items ≡ tag head ∷ (shown_value fresh ++ text covered.now ∷ text clear.now ∷ [])) }
     ensures small { IfOk result (λ ts. AreSmall 1027 ts.items) }
     ensures few { IfOk result (λ ts. length ts.items ≤ 5) }
     ensures memory { IfErr result (λ e. e ≡ Memory) }
@@ -93,8 +97,8 @@ fn before_check(
     }
 }
 
-/// The message of a tag, a fresh value where one is shown, the text that the check covers, a clear text, and the check of the body
-/// under the key.
+/// The message of a tag, a fresh value where one is shown, the text that the check covers, a clear
+/// text, and the check of the body under the key.
 ///
 /// # Errors
 ///
@@ -110,8 +114,9 @@ pub fn say_checked<S: Sealer>(
     clear: &Text,
 ) -> Result<Said, Refusal>
     requires flat { IsFlat body }
-    ensures made_of { IfOk result (λ s. (S.checks key body s.item.item ≡ true) × (s.item.key ≡ key) × (s.item.body ≡ body)) }
-    ensures message { IfOk result (λ s. s.message ≡ tuple (trees (tag head ∷ (shown_value fresh ++ text covered.now ∷ text clear.now ∷ s.item.item ∷ [])))) }
+    ensures made_of { IfOk result (λ s. IsCheckOf S.checks key body s.item) }
+    ensures message { IfOk result (λ s. s.message ≡ tuple (trees (tag head
+        ∷ (shown_value fresh ++ text covered.now ∷ text clear.now ∷ s.item.item ∷ [])))) }
     ensures limits { IfOk result (λ s. IsInLimits s.message) }
     ensures memory { IfErr result (λ e. e ≡ Memory) }
 {
@@ -126,7 +131,8 @@ pub fn say_checked<S: Sealer>(
 ///
 /// Want of memory alone.
 pub fn challenge(alloc: Global, head: Tag, fresh: &Nonce, clear: &Text) -> Result<Term, Refusal>
-    ensures message { IfOk result (λ t. t ≡ tuple (trees (tag head ∷ nonce fresh.now ∷ text clear.now ∷ []))) }
+    ensures message { IfOk result (λ t.
+        t ≡ tuple (trees (tag head ∷ nonce fresh.now ∷ text clear.now ∷ []))) }
     ensures limits { IfOk result IsInLimits }
     ensures memory { IfErr result (λ e. e ≡ Memory) }
 {
@@ -149,9 +155,11 @@ pub fn say_item<S: Sealer, D: Draws>(
     head: Tag,
 ) -> Result<(Term, Vec<Opening>), Refusal>
     requires flat { IsFlat body }
-    ensures sealed { IfOk result (λ s. s.1.items ≡ record { key = key; item = first_item s.1.items; body = body } ∷ []) }
+    ensures sealed { IfOk result (λ s.
+        s.1.items ≡ record { key = key; item = first_item s.1.items; body = body } ∷ []) }
     ensures opens { IfOk result (λ s. S.opens key (first_item s.1.items) ≡ Some body) }
-    ensures message { IfOk result (λ s. s.0 ≡ tuple (trees (tag head ∷ first_item s.1.items ∷ []))) }
+    ensures message { IfOk result (λ s.
+        s.0 ≡ tuple (trees (tag head ∷ first_item s.1.items ∷ []))) }
     ensures limits { IfOk result (λ s. IsInLimits s.0) }
     ensures nonces { IfOk result (λ s. IfSome (D.told draws.old) (λ t.
         NoncesAre S.iv_of t (if S.wants_iv sealer.now then s.1.items else []) (D.told draws.new))) }

@@ -3,6 +3,7 @@ ghost use Rattle.outside.specs.Told.{nonce_draw, part_draw, next_draw};
 ghost use Rattle.mech_rows.specs.declared.refusal.Refusal.TheVariants.{Memory};
 ghost use Rattle.text_hooks.specs.Parts.{IsFlat, IsMadeItem};
 ghost use Rattle.text_hooks.specs.Drawn.{HasDrawCause, MovedOn, NoncesAre};
+ghost use Rattle.text_hooks.specs.Made.{IsCheckOf, IsNext, IsNonceOf, IsSealOf};
 
 use mech_rows::{Opening, Refusal};
 use outside::Draws;
@@ -16,8 +17,8 @@ use term_values::{Key, Nonce, Part, Term};
 ///
 /// `DrawFault`, and the count of faults rose; the draws stay.
 pub fn draw_nonce<D: Draws>(draws: &mut D) -> Result<Nonce, Refusal>
-    ensures drawn { IfOk result (λ n. IfSome (D.told draws.old) (λ t.
-        (n ≡ t.value nonce_draw t.place) × (D.told draws.new ≡ Some (next_draw t)))) }
+    ensures drawn { IfOk result
+        (IsNext (λ t. t.value nonce_draw t.place) (D.told draws.old) (D.told draws.new)) }
     ensures moved { MovedOn 1 (D.told draws.old) (D.told draws.new) }
     ensures stays { OnErr result (D.told draws.new ≡ D.told draws.old) }
     ensures cause { HasDrawCause (D.fault_count draws.old) (D.fault_count draws.new) result }
@@ -34,8 +35,8 @@ pub fn draw_nonce<D: Draws>(draws: &mut D) -> Result<Nonce, Refusal>
 ///
 /// `DrawFault`, and the count of faults rose; the draws stay.
 pub fn draw_part<D: Draws>(draws: &mut D) -> Result<Part, Refusal>
-    ensures drawn { IfOk result (λ n. IfSome (D.told draws.old) (λ t.
-        (n ≡ t.value part_draw t.place) × (D.told draws.new ≡ Some (next_draw t)))) }
+    ensures drawn { IfOk result
+        (IsNext (λ t. t.value part_draw t.place) (D.told draws.old) (D.told draws.new)) }
     ensures moved { MovedOn 1 (D.told draws.old) (D.told draws.new) }
     ensures stays { OnErr result (D.told draws.new ≡ D.told draws.old) }
     ensures cause { HasDrawCause (D.fault_count draws.old) (D.fault_count draws.new) result }
@@ -77,10 +78,10 @@ pub fn seal_item<S: Sealer, D: Draws>(
     body: Term,
 ) -> Result<Opening, Refusal>
     requires flat { IsFlat body }
-    ensures sealed { IfOk result (λ o. (S.opens key o.item ≡ Some body) × (o.key ≡ key) × (o.body ≡ body)) }
+    ensures sealed { IfOk result (IsSealOf S.opens key body) }
     ensures made { IfOk result (λ o. IsMadeItem o.item) }
-    ensures nonces { IfOk result (λ o. IfSome (D.told draws.old) (λ t.
-        NoncesAre S.iv_of t (if S.wants_iv sealer.now then o ∷ [] else []) (D.told draws.new))) }
+    ensures nonces { IfOk result
+        (IsNonceOf S.iv_of (S.wants_iv sealer.now) (D.told draws.old) (D.told draws.new)) }
     ensures moved { MovedOn 1 (D.told draws.old) (D.told draws.new) }
     ensures cause { HasDrawCause (D.fault_count draws.old) (D.fault_count draws.new) result }
 {
@@ -102,7 +103,7 @@ pub fn check_item<S: Sealer>(
     body: Term,
 ) -> Result<Opening, Refusal>
     requires flat { IsFlat body }
-    ensures made_of { IfOk result (λ o. (S.checks key body o.item ≡ true) × (o.key ≡ key) × (o.body ≡ body)) }
+    ensures made_of { IfOk result (IsCheckOf S.checks key body) }
     ensures made { IfOk result (λ o. IsMadeItem o.item) }
     ensures memory { IfErr result (λ e. e ≡ Memory) }
 {

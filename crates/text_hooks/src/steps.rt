@@ -6,15 +6,17 @@ ghost use Rattle.tagged_codec.specs.Grammar.{IsInLimits, IsSpelling};
 ghost use Rattle.outside.specs.Causes.{Rose};
 ghost use Rattle.mech_rows.specs.Moves.{Fitted, IsAnswer, step_of};
 ghost use Rattle.mech_rows.specs.Openings.{has_parts};
-ghost use Rattle.mech_rows.specs.Replies.{sends, sends_first, receives, has_acted, needs_stamp, new_slots, next_pass, made_in, Says};
+ghost use Rattle.mech_rows.specs.Replies.{Says, has_acted, needs_stamp, receives, sends};
+ghost use Rattle.mech_rows.specs.Replies.{sends_first};
 ghost use Rattle.mech_rows.specs.Rings.{keys_in};
 ghost use Rattle.mech_rows.specs.Runs.{outcome_of};
 ghost use Rattle.mech_rows.specs.Lawful.{tested_by};
 ghost use Rattle.mech_rows.specs.Steps.{IsStep};
 ghost use Rattle.mech_rows.specs.Verdict.{verdict, run_of};
-ghost use Rattle.mech_rows.specs.declared.refusal.Refusal.TheVariants.{Memory, DrawFault, Malformed};
-ghost use Rattle.text_hooks.specs.Drawn.{DrawsAre, MovedOn};
-ghost use Rattle.text_hooks.specs.Refused.{IsNoSpelling};
+ghost use Rattle.mech_rows.specs.declared.refusal.Refusal.TheVariants.{DrawFault, Memory};
+ghost use Rattle.text_hooks.specs.Drawn.{DrawnFor, MovedFor};
+ghost use Rattle.text_hooks.specs.Leading.{IsTaken};
+ghost use Rattle.text_hooks.specs.Refused.{IsNoSpelling, IsRefused};
 ghost use Rattle.text_hooks.specs.Rules.{allowed};
 
 use crate::hook::Hook;
@@ -31,7 +33,8 @@ fn read(alloc: Global, bytes: &[u8]) -> Result<Term, Refusal>
     ensures read { IfOk result (λ t. IsSpelling t bytes.now) }
     ensures limits { IfOk result IsInLimits }
     ensures refused { IfErr result (λ e. e ≢ Memory → IsNoSpelling bytes.now e) }
-    ensures again { (t : Tree) → IsSpelling t bytes.now → MatchResult result (λ u. u ≡ t) (λ e. e ≡ Memory) }
+    ensures again { (t : Tree) → IsSpelling t bytes.now →
+        MatchResult result (λ u. u ≡ t) (λ e. e ≡ Memory) }
 {
     match decode_whole(alloc, bytes) {
         Ok(term) => Ok(term),
@@ -50,10 +53,21 @@ fn packed<T: RoleState, S: Sealer>(
 ) -> Prepared<T>
     requires receives { receives (T.state_of before) ≡ true }
     requires acted { has_acted (T.state_of before) ≡ true }
-    requires fit { verdict S.opens S.checks (keys_in ring.now) (allowed hook.now.rules.items) (T.state_of before) term ≡ Ok (record { notes = (T.state_of taken.after).notes; opened = taken.opened.items; got = taken.got.items }) }
+    requires fit { IsTaken S.opens S.checks ring.now hook.now.rules.items (T.state_of before) term
+        (record {
+          notes = (T.state_of taken.after).notes;
+          opened = taken.opened.items;
+          got = taken.got.items;
+        }) }
     requires same_head { (T.state_of taken.after).head ≡ (T.state_of before).head }
     requires moves { (T.state_of taken.after).next ≡ suc (T.state_of before).next }
-    ensures prepared { result ≡ record { before = T.state_of before; after = T.state_of taken.after; taken = term; opened = taken.opened.items; got = taken.got.items } }
+    ensures prepared { result ≡ record {
+      before = T.state_of before;
+      after = T.state_of taken.after;
+      taken = term;
+      opened = taken.opened.items;
+      got = taken.got.items;
+    } }
     ensures fitted { Fitted S.opens S.checks (keys_in ring.now) result }
 {
     Prepared {
@@ -65,13 +79,13 @@ fn packed<T: RoleState, S: Sealer>(
     }
 }
 
-/// Judges bytes as the message of the state's next pass, which its role receives, and takes the message where it fits. The
-/// ring has the parts that the role uses.
+/// Judges bytes as the message of the state's next pass, which its role receives, and takes the
+/// message where it fits. The ring has the parts that the role uses.
 ///
 /// # Errors
 ///
-/// `Malformed` where the bytes are no spelling of one term, and else the first refusal of the verdict, 4 to 8 and 14; want of
-/// memory.
+/// `Malformed` where the bytes are no spelling of one term, and else the first refusal of the
+/// verdict, 4 to 8 and 14; want of memory.
 pub fn prepare<T: RoleState, S: Sealer>(
     state: &T,
     alloc: Global,
@@ -84,9 +98,13 @@ pub fn prepare<T: RoleState, S: Sealer>(
     requires parts { has_parts ring.now (T.state_of state.now).head ≡ true }
     ensures read { IfOk result (λ p. IsSpelling p.taken bytes.now) }
     ensures before { IfOk result (λ p. p.before ≡ T.state_of state.now) }
-    ensures fit { IfOk result (λ p. verdict S.opens S.checks (keys_in ring.now) (allowed hook.now.rules.items) (T.state_of state.now) p.taken ≡ Ok (record { notes = p.after.notes; opened = p.opened; got = p.got })) }
+    ensures fit { IfOk result (λ p. IsTaken S.opens S.checks ring.now hook.now.rules.items
+        (T.state_of state.now) p.taken
+        (record { notes = p.after.notes; opened = p.opened; got = p.got })) }
     ensures fitted { IfOk result (Fitted S.opens S.checks (keys_in ring.now)) }
-    ensures refused { IfErr result (λ e. e ≢ Memory → IsNoSpelling bytes.now e ⊎ ((t : Tree) × IsSpelling t bytes.now × (verdict S.opens S.checks (keys_in ring.now) (allowed hook.now.rules.items) (T.state_of state.now) t ≡ Err e))) }
+    ensures refused { IfErr result (λ e. e ≢ Memory →
+        IsRefused S.opens S.checks ring.now hook.now.rules.items
+        (T.state_of state.now) bytes.now e) }
 {
     let term = read(alloc, bytes)?;
     let taken = state.take(alloc, sealer, ring, hook, &term)?;
@@ -94,12 +112,13 @@ pub fn prepare<T: RoleState, S: Sealer>(
     Ok(packed::<T, S>(ring, hook, before, taken, term))
 }
 
-/// The step that says the first message of a run, whose role sends it. A stamp is given exactly where one is needed; the ring
-/// has the parts that the role uses.
+/// The step that says the first message of a run, whose role sends it. A stamp is given exactly
+/// where one is needed; the ring has the parts that the role uses.
 ///
 /// # Errors
 ///
-/// `DrawFault`, only where the count of faults rose in this call; want of memory, only where the count stayed.
+/// `DrawFault`, only where the count of faults rose in this call; want of memory, only where the
+/// count stayed.
 pub fn first<T: RoleState, S: Sealer, D: Draws>(
     state: &T,
     alloc: Global,
@@ -114,27 +133,34 @@ pub fn first<T: RoleState, S: Sealer, D: Draws>(
     ensures before { IfOk result (λ s. s.before ≡ T.state_of state.now) }
     ensures taken { IfOk result (λ s. (s.taken ≡ None) × (s.opened ≡ []) × (s.got ≡ [])) }
     ensures issued { IfOk result (λ s. s.issued ≡ stamp) }
-    ensures says { IfOk result (λ s. (s.reply ≢ None) × IsAnswer S.opens S.checks (keys_in ring.now) s.before s) }
-    ensures step { IfOk result (λ s. IsStep (tested_by S.opens S.checks) (keys_in ring.now) (step_of s)) }
+    ensures says { IfOk result (λ s. (s.reply ≢ None)
+        × IsAnswer S.opens S.checks (keys_in ring.now) s.before s) }
+    ensures step { IfOk result (λ s.
+        IsStep (tested_by S.opens S.checks) (keys_in ring.now) (step_of s)) }
     ensures limits { IfOk result (λ s. IfSome s.reply IsInLimits) }
-    ensures drawn { IfOk result (λ s. DrawsAre S.iv_of (S.wants_iv sealer.now) (D.told draws.old) (D.told draws.new) stamp (new_slots s.before) (made_in (next_pass s.before).covers) s.before.notes s.after.notes s.sealed) }
-    ensures moved { MovedOn (length (new_slots (T.state_of state.now)) + length (made_in (next_pass (T.state_of state.now)).covers)) (D.told draws.old) (D.told draws.new) }
+    ensures drawn { IfOk result (λ s. DrawnFor S.iv_of (S.wants_iv sealer.now)
+        (D.told draws.old) (D.told draws.new) stamp s.before s.after s.sealed) }
+    ensures moved { MovedFor (T.state_of state.now) (D.told draws.old) (D.told draws.new) }
     ensures later { D.fault_count draws.old ≤ D.fault_count draws.new }
     ensures quiet { OnOk result (D.fault_count draws.new ≡ D.fault_count draws.old) }
-    ensures memory { IfErr result (λ e. e ≡ Memory → D.fault_count draws.new ≡ D.fault_count draws.old) }
-    ensures refused { IfErr result (λ e. e ≢ Memory → (e ≡ DrawFault) × Rose (D.fault_count draws.old) (D.fault_count draws.new)) }
+    ensures memory { IfErr result (λ e. e ≡ Memory →
+        D.fault_count draws.new ≡ D.fault_count draws.old) }
+    ensures refused { IfErr result (λ e. e ≢ Memory →
+        (e ≡ DrawFault) × Rose (D.fault_count draws.old) (D.fault_count draws.new)) }
 {
     let reply = state.say(alloc, sealer, ring, draws, stamp)?;
     let before = state.copy(alloc)?;
     Ok(begun::<T, S>(alloc, ring, before, reply, stamp))
 }
 
-/// The step that answers a message, or that ends the run where its role says nothing more. The message was prepared with this
-/// sealer and this ring, which has the parts that the role uses; a stamp is given exactly where one is needed.
+/// The step that answers a message, or that ends the run where its role says nothing more. The
+/// message was prepared with this sealer and this ring, which has the parts that the role uses; a
+/// stamp is given exactly where one is needed.
 ///
 /// # Errors
 ///
-/// `DrawFault`, only where the count of faults rose in this call; want of memory, only where the count stayed. What was prepared is given up then.
+/// `DrawFault`, only where the count of faults rose in this call; want of memory, only where the
+/// count stayed. What was prepared is given up then.
 #[tactic(auto, using(crate::proofs::Draws::not_moved))]
 pub fn compose<T: RoleState, S: Sealer, D: Draws>(
     prepared: Prepared<T>,
@@ -154,15 +180,21 @@ pub fn compose<T: RoleState, S: Sealer, D: Draws>(
     ensures issued { IfOk result (λ s. s.issued ≡ stamp) }
     ensures replies { IfOk result (λ s. is_some s.reply ≡ sends prepared.after) }
     ensures says { IfOk result (IsAnswer S.opens S.checks (keys_in ring.now) prepared.after) }
-    ensures step { IfOk result (λ s. IsStep (tested_by S.opens S.checks) (keys_in ring.now) (step_of s)) }
+    ensures step { IfOk result (λ s.
+        IsStep (tested_by S.opens S.checks) (keys_in ring.now) (step_of s)) }
     ensures limits { IfOk result (λ s. IfSome s.reply IsInLimits) }
-    ensures drawn { IfOk result (λ s. IfSome s.reply (λ _. DrawsAre S.iv_of (S.wants_iv sealer.now) (D.told draws.old) (D.told draws.new) stamp (new_slots prepared.after) (made_in (next_pass prepared.after).covers) prepared.after.notes s.after.notes s.sealed)) }
-    ensures silent { IfOk result (λ s. s.reply ≡ None → (s.after ≡ prepared.after) × (D.told draws.new ≡ D.told draws.old)) }
-    ensures moved { MovedOn (length (new_slots prepared.after) + length (made_in (next_pass prepared.after).covers)) (D.told draws.old) (D.told draws.new) }
+    ensures drawn { IfOk result (λ s. IfSome s.reply (λ _.
+        DrawnFor S.iv_of (S.wants_iv sealer.now) (D.told draws.old) (D.told draws.new)
+        stamp prepared.after s.after s.sealed)) }
+    ensures silent { IfOk result (λ s. s.reply ≡ None →
+        (s.after ≡ prepared.after) × (D.told draws.new ≡ D.told draws.old)) }
+    ensures moved { MovedFor prepared.after (D.told draws.old) (D.told draws.new) }
     ensures later { D.fault_count draws.old ≤ D.fault_count draws.new }
     ensures quiet { OnOk result (D.fault_count draws.new ≡ D.fault_count draws.old) }
-    ensures memory { IfErr result (λ e. e ≡ Memory → D.fault_count draws.new ≡ D.fault_count draws.old) }
-    ensures refused { IfErr result (λ e. e ≢ Memory → (e ≡ DrawFault) × Rose (D.fault_count draws.old) (D.fault_count draws.new)) }
+    ensures memory { IfErr result (λ e. e ≡ Memory →
+        D.fault_count draws.new ≡ D.fault_count draws.old) }
+    ensures refused { IfErr result (λ e. e ≢ Memory →
+        (e ≡ DrawFault) × Rose (D.fault_count draws.old) (D.fault_count draws.new)) }
 {
     if !prepared.after.sends() {
         return Ok(ended::<T, S>(alloc, ring, prepared));
@@ -190,7 +222,8 @@ fn begun<T: RoleState, S: Sealer>(
     stamp: Option<Stamp>,
 ) -> Step<T>
     requires first { sends_first (T.state_of before) ≡ true }
-    requires says { Says S.opens S.checks (keys_in ring.now) (T.state_of before) (T.state_of reply.after) reply.message reply.sealed.items stamp }
+    requires says { Says S.opens S.checks (keys_in ring.now) (T.state_of before)
+        (T.state_of reply.after) reply.message reply.sealed.items stamp }
     ensures before { result.before ≡ T.state_of before }
     ensures after { result.after ≡ T.state_of reply.after }
     ensures taken { result.taken ≡ None }
@@ -221,7 +254,8 @@ fn answered<T: RoleState, S: Sealer>(
 ) -> Step<T>
     requires fitted { Fitted S.opens S.checks (keys_in ring.now) prepared }
     requires sends { sends prepared.after ≡ true }
-    requires says { Says S.opens S.checks (keys_in ring.now) prepared.after (T.state_of reply.after) reply.message reply.sealed.items stamp }
+    requires says { Says S.opens S.checks (keys_in ring.now) prepared.after
+        (T.state_of reply.after) reply.message reply.sealed.items stamp }
     ensures before { result.before ≡ prepared.before }
     ensures after { result.after ≡ T.state_of reply.after }
     ensures taken { result.taken ≡ Some prepared.taken }

@@ -7,6 +7,7 @@ ghost use Rattle.term_values.specs.Same.{same};
 ghost use Rattle.mech_rows.specs.Verdict.{at, has_kind};
 ghost use Rattle.mech_rows.specs.declared.refusal.Refusal.TheVariants.{Memory, WrongValue, TextRefused};
 ghost use Rattle.text_hooks.specs.Judged.{refused_of_two};
+ghost use Rattle.text_hooks.specs.Made.{IsRefusedText, IsWrongValue};
 ghost use Rattle.text_hooks.specs.Rules.{allowed};
 
 use crate::hook::Hook;
@@ -79,14 +80,15 @@ fn same_nonce(found: &Nonce, held: &Nonce) -> bool
     is_nonce(found, held)
 }
 
-/// Compares a nonce with the one that is held. `part` is the place of its item among the protected items, from 1, or 0. Takes no memory.
+/// Compares a nonce with the one that is held. `part` is the place of its item among the protected
+/// items, from 1, or 0. Takes no memory.
 ///
 /// # Errors
 ///
 /// `WrongValue` of that part and slot exactly where they differ.
 pub fn compare_nonce(found: &Nonce, held: &Nonce, part: u8, slot: Slot) -> Result<(), Refusal>
     ensures ok { OnOk result (same (nonce found.now) (nonce held.now) ≡ true) }
-    ensures value { IfErr result (λ e. (same (nonce found.now) (nonce held.now) ≡ false) × (e ≡ WrongValue part slot)) }
+    ensures value { IfErr result (IsWrongValue (nonce found.now) (nonce held.now) part slot) }
 {
     if !same_nonce(found, held) {
         return Err(Refusal::WrongValue { part, slot });
@@ -106,14 +108,15 @@ fn same_stamp(found: Stamp, held: Stamp) -> bool
     is_stamp(found, held)
 }
 
-/// Compares a stamp with the one that is held. `part` is the place of its item among the protected items, from 1. Takes no memory.
+/// Compares a stamp with the one that is held. `part` is the place of its item among the protected
+/// items, from 1. Takes no memory.
 ///
 /// # Errors
 ///
 /// `WrongValue` of that part and slot exactly where they differ.
 pub fn compare_stamp(found: Stamp, held: Stamp, part: u8, slot: Slot) -> Result<(), Refusal>
     ensures ok { OnOk result (same (stamp found) (stamp held) ≡ true) }
-    ensures value { IfErr result (λ e. (same (stamp found) (stamp held) ≡ false) × (e ≡ WrongValue part slot)) }
+    ensures value { IfErr result (IsWrongValue (stamp found) (stamp held) part slot) }
 {
     if !same_stamp(found, held) {
         return Err(Refusal::WrongValue { part, slot });
@@ -128,7 +131,8 @@ pub fn compare_stamp(found: Stamp, held: Stamp, part: u8, slot: Slot) -> Result<
 /// `TextRefused` of that slot exactly where the rules refuse it.
 pub fn judge_text(hook: &Hook, mech: Mech, slot: Slot, text: &Text) -> Result<(), Refusal>
     ensures ok { OnOk result (allowed hook.now.rules.items mech slot text.now ≡ true) }
-    ensures refused { IfErr result (λ e. (allowed hook.now.rules.items mech slot text.now ≡ false) × (e ≡ TextRefused slot)) }
+    ensures refused { IfErr result
+        (IsRefusedText (allowed hook.now.rules.items) mech slot text.now) }
 {
     if !hook.judge(mech, slot, text.list()) {
         return Err(Refusal::TextRefused { slot });
@@ -150,7 +154,8 @@ pub fn take_text(
 ) -> Result<Text, Refusal>
     ensures equal { IfOk result (λ x. x ≡ text.now) }
     ensures ok { OnOk result (allowed hook.now.rules.items mech slot text.now ≡ true) }
-    ensures refused { IfErr result (λ e. e ≢ Memory → (allowed hook.now.rules.items mech slot text.now ≡ false) × (e ≡ TextRefused slot)) }
+    ensures refused { IfErr result (λ e. e ≢ Memory →
+        IsRefusedText (allowed hook.now.rules.items) mech slot text.now e) }
 {
     judge_text(hook, mech, slot, text)?;
     Ok(text.copy(alloc)?)
@@ -169,17 +174,21 @@ pub fn take_texts(
     two: (Slot, &Text),
 ) -> Result<(Text, Text), Refusal>
     ensures equal { IfOk result (λ p. (p.0 ≡ one.entry.1.now) × (p.1 ≡ two.entry.1.now)) }
-    ensures first { OnOk result (allowed hook.now.rules.items mech one.entry.0 one.entry.1.now ≡ true) }
-    ensures second { OnOk result (allowed hook.now.rules.items mech two.entry.0 two.entry.1.now ≡ true) }
-    ensures refused { IfErr result (λ e. e ≢ Memory → refused_of_two (allowed hook.now.rules.items) mech
-        one.entry.0 one.entry.1.now two.entry.0 two.entry.1.now ≡ Some e) }
+    ensures first { OnOk result
+        (allowed hook.now.rules.items mech one.entry.0 one.entry.1.now ≡ true) }
+    ensures second { OnOk result
+        (allowed hook.now.rules.items mech two.entry.0 two.entry.1.now ≡ true) }
+    ensures refused { IfErr result (λ e. e ≢ Memory →
+        refused_of_two (allowed hook.now.rules.items) mech one.entry.0 one.entry.1.now
+        two.entry.0 two.entry.1.now ≡ Some e) }
 {
     let first = take_text(alloc, hook, mech, one.0, one.1)?;
     let second = take_text(alloc, hook, mech, two.0, two.1)?;
     Ok((first, second))
 }
 
-/// Two texts that were received and are judged, the first before the second, and a list of the stamp that came with them.
+/// Two texts that were received and are judged, the first before the second, and a list of the
+/// stamp that came with them.
 ///
 /// # Errors
 ///
@@ -194,10 +203,13 @@ pub fn take_token(
 ) -> Result<(Text, Text, Vec<Got>), Refusal>
     ensures equal { IfOk result (λ p. (p.0 ≡ one.entry.1.now) × (p.1 ≡ two.entry.1.now)) }
     ensures got { IfOk result (λ p. p.2.items ≡ got ∷ []) }
-    ensures first { OnOk result (allowed hook.now.rules.items mech one.entry.0 one.entry.1.now ≡ true) }
-    ensures second { OnOk result (allowed hook.now.rules.items mech two.entry.0 two.entry.1.now ≡ true) }
-    ensures refused { IfErr result (λ e. e ≢ Memory → refused_of_two (allowed hook.now.rules.items) mech
-        one.entry.0 one.entry.1.now two.entry.0 two.entry.1.now ≡ Some e) }
+    ensures first { OnOk result
+        (allowed hook.now.rules.items mech one.entry.0 one.entry.1.now ≡ true) }
+    ensures second { OnOk result
+        (allowed hook.now.rules.items mech two.entry.0 two.entry.1.now ≡ true) }
+    ensures refused { IfErr result (λ e. e ≢ Memory →
+        refused_of_two (allowed hook.now.rules.items) mech one.entry.0 one.entry.1.now
+        two.entry.0 two.entry.1.now ≡ Some e) }
 {
     let (first, second) = take_texts(alloc, hook, mech, one, two)?;
     let list = one_stamp(alloc, got)?;

@@ -1,4 +1,4 @@
-use Rattle.std.proofs.Common.{◌≡◌, refl}
+use Rattle.std.proofs.Common.{refl}
 use Rattle.text_hooks.proofs.order.chosen.Goals as goal
 use Rattle.text_hooks.proofs.Ordering.{one_more}
 

@@ -1,4 +1,4 @@
-use Rattle.std.proofs.Common.{ap, sym, ◌∙◌}
+use Rattle.std.proofs.Common.{ap, ◌∙◌}
 use Rattle.mech_rows.specs.Runs.{Opening}
 use Rattle.text_hooks.proofs.Limits.{one_fits}
 use Rattle.text_hooks.proofs.saying.with_item.Goals as goal
