@@ -162,13 +162,13 @@ fn first_of<S: Sealer>(
     requires kinds { are_clear items.now 1 (Shows X2 ∷ []) ≡ true }
     requires items { message_items (1 ∷ 1 ∷ 1 ∷ 0 ∷ []) names.now.b (Shows X2 ∷ []) (true ∷ [])
         delivery.now.term.now ≡ Ok items.now }
-    requires opened { S.opens (key_of delivery.now.ring.now names.now) (at items.now 2) ≡ Some body.now }
-    ensures fit { IfOk result (λ v. Leads S.opens S.checks delivery.now.ring.now delivery.now.hook.now.rules.items
-        (run_b names.now StartB) delivery.now.term.now
-        (run_b names.now (DoneB v.0)) (opened_by delivery.now.ring.now names.now (at items.now 2) body.now) (v.1 ∷ [])) }
-    ensures refused { IfErr result (λ e. e ≢ Memory →
-        Refuses S.opens S.checks delivery.now.ring.now delivery.now.hook.now.rules.items
-        (run_b names.now StartB) delivery.now.term.now e) }
+    requires opened { S.opens (key_of delivery.now.ring.now names.now) (at items.now 2)
+        ≡ Some body.now }
+    ensures fit { IfOk result (λ v. Leads S.opens S.checks delivery.now
+        (run_b names.now StartB) (run_b names.now (DoneB v.0))
+        (opened_by delivery.now.ring.now names.now (at items.now 2) body.now) (v.1 ∷ [])) }
+    ensures refused { IfErr result
+        (Refuses S.opens S.checks delivery.now (run_b names.now StartB)) }
 {
     let (a, b) = (names.a, names.b);
     let slots = read_body(body, &Tag([1, 1, 1, 1]), &[a, b], &[Slot::Ta, Slot::X1], 1)?;
@@ -191,12 +191,10 @@ fn read_first<S: Sealer>(
     names: &Pair,
 ) -> Result<(SealedToken, Vec<Opening>, Vec<Got>), Refusal>
     requires parts { has_parts delivery.now.ring.now (run_b names.now StartB).head ≡ true }
-    ensures fit { IfOk result (λ p. Leads S.opens S.checks delivery.now.ring.now delivery.now.hook.now.rules.items
-        (run_b names.now StartB) delivery.now.term.now
-        (run_b names.now (DoneB p.0)) p.1.items p.2.items) }
-    ensures refused { IfErr result (λ e. e ≢ Memory →
-        Refuses S.opens S.checks delivery.now.ring.now delivery.now.hook.now.rules.items
-        (run_b names.now StartB) delivery.now.term.now e) }
+    ensures fit { IfOk result (λ p. Leads S.opens S.checks delivery.now
+        (run_b names.now StartB) (run_b names.now (DoneB p.0)) p.1.items p.2.items) }
+    ensures refused { IfErr result
+        (Refuses S.opens S.checks delivery.now (run_b names.now StartB)) }
 {
     let alloc = delivery.alloc;
     let items = read_message(

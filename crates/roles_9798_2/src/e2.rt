@@ -56,12 +56,11 @@ fn read_challenge<S: Sealer>(
     names: &Pair,
     own: &SecondTexts,
 ) -> Result<Challenge, Refusal>
-    ensures fit { IfOk result (λ c. Leads S.opens S.checks delivery.now.ring.now delivery.now.hook.now.rules.items
-        (run_a names.now (StartA own.now)) delivery.now.term.now
+    ensures fit { IfOk result (λ c. Leads S.opens S.checks delivery.now
+        (run_a names.now (StartA own.now))
         (run_a names.now (HeardA (record { own = own.now; challenge = c }))) [] []) }
-    ensures refused { IfErr result (λ e. e ≢ Memory →
-        Refuses S.opens S.checks delivery.now.ring.now delivery.now.hook.now.rules.items
-        (run_a names.now (StartA own.now)) delivery.now.term.now e) }
+    ensures refused { IfErr result
+        (Refuses S.opens S.checks delivery.now (run_a names.now (StartA own.now))) }
 {
     let items = read_message(
         delivery.term,
@@ -235,13 +234,14 @@ fn answer_of<S: Sealer>(
     requires kinds { are_clear items.now 1 (Shows X3 ∷ []) ≡ true }
     requires items { message_items (1 ∷ 2 ∷ 2 ∷ 0 ∷ []) names.now.b (Shows X3 ∷ []) (true ∷ [])
         delivery.now.term.now ≡ Ok items.now }
-    requires opened { S.opens (key_of delivery.now.ring.now names.now) (at items.now 2) ≡ Some body.now }
-    ensures fit { IfOk result (λ v. Leads S.opens S.checks delivery.now.ring.now delivery.now.hook.now.rules.items
-        (run_b names.now (AskedB known.now)) delivery.now.term.now
-        (run_b names.now (DoneB (record { asked = known.now; answer = v }))) (opened_by delivery.now.ring.now names.now (at items.now 2) body.now) []) }
-    ensures refused { IfErr result (λ e. e ≢ Memory →
-        Refuses S.opens S.checks delivery.now.ring.now delivery.now.hook.now.rules.items
-        (run_b names.now (AskedB known.now)) delivery.now.term.now e) }
+    requires opened { S.opens (key_of delivery.now.ring.now names.now) (at items.now 2)
+        ≡ Some body.now }
+    ensures fit { IfOk result (λ v. Leads S.opens S.checks delivery.now
+        (run_b names.now (AskedB known.now))
+        (run_b names.now (DoneB (record { asked = known.now; answer = v })))
+        (opened_by delivery.now.ring.now names.now (at items.now 2) body.now) []) }
+    ensures refused { IfErr result
+        (Refuses S.opens S.checks delivery.now (run_b names.now (AskedB known.now))) }
 {
     let (a, b) = (names.a, names.b);
     let slots = read_body(body, &Tag([1, 2, 2, 1]), &[a, b], &[Slot::Rb, Slot::X2], 1)?;
@@ -258,13 +258,12 @@ fn read_answer<S: Sealer>(
     names: &Pair,
     known: &Asked,
 ) -> Result<(AnswerTaken, Vec<Opening>), Refusal>
-    requires parts { has_parts delivery.now.ring.now (run_b names.now (AskedB known.now)).head ≡ true }
-    ensures fit { IfOk result (λ p. Leads S.opens S.checks delivery.now.ring.now delivery.now.hook.now.rules.items
-        (run_b names.now (AskedB known.now)) delivery.now.term.now
-        (run_b names.now (DoneB p.0)) p.1.items []) }
-    ensures refused { IfErr result (λ e. e ≢ Memory →
-        Refuses S.opens S.checks delivery.now.ring.now delivery.now.hook.now.rules.items
-        (run_b names.now (AskedB known.now)) delivery.now.term.now e) }
+    requires parts { has_parts delivery.now.ring.now
+        (run_b names.now (AskedB known.now)).head ≡ true }
+    ensures fit { IfOk result (λ p. Leads S.opens S.checks delivery.now
+        (run_b names.now (AskedB known.now)) (run_b names.now (DoneB p.0)) p.1.items []) }
+    ensures refused { IfErr result
+        (Refuses S.opens S.checks delivery.now (run_b names.now (AskedB known.now))) }
 {
     let alloc = delivery.alloc;
     let items = read_message(

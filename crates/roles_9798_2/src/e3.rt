@@ -90,13 +90,14 @@ fn second_of<S: Sealer>(
     requires kinds { are_clear items.now 1 (Shows X4 ∷ []) ≡ true }
     requires items { message_items (1 ∷ 3 ∷ 2 ∷ 0 ∷ []) names.now.b (Shows X4 ∷ []) (true ∷ [])
         delivery.now.term.now ≡ Ok items.now }
-    requires opened { S.opens (key_of delivery.now.ring.now names.now) (at items.now 2) ≡ Some body.now }
-    ensures fit { IfOk result (λ v. Leads S.opens S.checks delivery.now.ring.now delivery.now.hook.now.rules.items
-        (run_a names.now (SentA known.now)) delivery.now.term.now
-        (run_a names.now (DoneA (record { sent = known.now; token = v.0 }))) (opened_by delivery.now.ring.now names.now (at items.now 2) body.now) (v.1 ∷ [])) }
-    ensures refused { IfErr result (λ e. e ≢ Memory →
-        Refuses S.opens S.checks delivery.now.ring.now delivery.now.hook.now.rules.items
-        (run_a names.now (SentA known.now)) delivery.now.term.now e) }
+    requires opened { S.opens (key_of delivery.now.ring.now names.now) (at items.now 2)
+        ≡ Some body.now }
+    ensures fit { IfOk result (λ v. Leads S.opens S.checks delivery.now
+        (run_a names.now (SentA known.now))
+        (run_a names.now (DoneA (record { sent = known.now; token = v.0 })))
+        (opened_by delivery.now.ring.now names.now (at items.now 2) body.now) (v.1 ∷ [])) }
+    ensures refused { IfErr result
+        (Refuses S.opens S.checks delivery.now (run_a names.now (SentA known.now))) }
 {
     let (a, b) = (names.a, names.b);
     let slots = read_body(body, &Tag([1, 3, 2, 1]), &[a, b], &[Slot::Tb, Slot::X3], 1)?;
@@ -119,13 +120,12 @@ fn read_second<S: Sealer>(
     names: &Pair,
     known: &Stamped,
 ) -> Result<(ReturnTaken, Vec<Opening>, Vec<Got>), Refusal>
-    requires parts { has_parts delivery.now.ring.now (run_a names.now (SentA known.now)).head ≡ true }
-    ensures fit { IfOk result (λ p. Leads S.opens S.checks delivery.now.ring.now delivery.now.hook.now.rules.items
-        (run_a names.now (SentA known.now)) delivery.now.term.now
-        (run_a names.now (DoneA p.0)) p.1.items p.2.items) }
-    ensures refused { IfErr result (λ e. e ≢ Memory →
-        Refuses S.opens S.checks delivery.now.ring.now delivery.now.hook.now.rules.items
-        (run_a names.now (SentA known.now)) delivery.now.term.now e) }
+    requires parts { has_parts delivery.now.ring.now
+        (run_a names.now (SentA known.now)).head ≡ true }
+    ensures fit { IfOk result (λ p. Leads S.opens S.checks delivery.now
+        (run_a names.now (SentA known.now)) (run_a names.now (DoneA p.0)) p.1.items p.2.items) }
+    ensures refused { IfErr result
+        (Refuses S.opens S.checks delivery.now (run_a names.now (SentA known.now))) }
 {
     let alloc = delivery.alloc;
     let items = read_message(
@@ -304,13 +304,14 @@ fn first_of<S: Sealer>(
     requires kinds { are_clear items.now 1 (Shows X2 ∷ []) ≡ true }
     requires items { message_items (1 ∷ 3 ∷ 1 ∷ 0 ∷ []) names.now.b (Shows X2 ∷ []) (true ∷ [])
         delivery.now.term.now ≡ Ok items.now }
-    requires opened { S.opens (key_of delivery.now.ring.now names.now) (at items.now 2) ≡ Some body.now }
-    ensures fit { IfOk result (λ v. Leads S.opens S.checks delivery.now.ring.now delivery.now.hook.now.rules.items
-        (run_b names.now (StartB known.now)) delivery.now.term.now
-        (run_b names.now (HeardB (record { own = known.now; token = v.0 }))) (opened_by delivery.now.ring.now names.now (at items.now 2) body.now) (v.1 ∷ [])) }
-    ensures refused { IfErr result (λ e. e ≢ Memory →
-        Refuses S.opens S.checks delivery.now.ring.now delivery.now.hook.now.rules.items
-        (run_b names.now (StartB known.now)) delivery.now.term.now e) }
+    requires opened { S.opens (key_of delivery.now.ring.now names.now) (at items.now 2)
+        ≡ Some body.now }
+    ensures fit { IfOk result (λ v. Leads S.opens S.checks delivery.now
+        (run_b names.now (StartB known.now))
+        (run_b names.now (HeardB (record { own = known.now; token = v.0 })))
+        (opened_by delivery.now.ring.now names.now (at items.now 2) body.now) (v.1 ∷ [])) }
+    ensures refused { IfErr result
+        (Refuses S.opens S.checks delivery.now (run_b names.now (StartB known.now))) }
 {
     let (a, b) = (names.a, names.b);
     let slots = read_body(body, &Tag([1, 3, 1, 1]), &[a, b], &[Slot::Ta, Slot::X1], 1)?;
@@ -333,13 +334,12 @@ fn read_first<S: Sealer>(
     names: &Pair,
     known: &AnswerTexts,
 ) -> Result<(TokenHeard, Vec<Opening>, Vec<Got>), Refusal>
-    requires parts { has_parts delivery.now.ring.now (run_b names.now (StartB known.now)).head ≡ true }
-    ensures fit { IfOk result (λ p. Leads S.opens S.checks delivery.now.ring.now delivery.now.hook.now.rules.items
-        (run_b names.now (StartB known.now)) delivery.now.term.now
-        (run_b names.now (HeardB p.0)) p.1.items p.2.items) }
-    ensures refused { IfErr result (λ e. e ≢ Memory →
-        Refuses S.opens S.checks delivery.now.ring.now delivery.now.hook.now.rules.items
-        (run_b names.now (StartB known.now)) delivery.now.term.now e) }
+    requires parts { has_parts delivery.now.ring.now
+        (run_b names.now (StartB known.now)).head ≡ true }
+    ensures fit { IfOk result (λ p. Leads S.opens S.checks delivery.now
+        (run_b names.now (StartB known.now)) (run_b names.now (HeardB p.0)) p.1.items p.2.items) }
+    ensures refused { IfErr result
+        (Refuses S.opens S.checks delivery.now (run_b names.now (StartB known.now))) }
 {
     let alloc = delivery.alloc;
     let items = read_message(

@@ -84,12 +84,11 @@ fn read_challenge<S: Sealer>(
     names: &Pair,
     own: &SecondTexts,
 ) -> Result<Challenge, Refusal>
-    ensures fit { IfOk result (λ c. Leads S.opens S.checks delivery.now.ring.now delivery.now.hook.now.rules.items
-        (run_a names.now (StartA own.now)) delivery.now.term.now
+    ensures fit { IfOk result (λ c. Leads S.opens S.checks delivery.now
+        (run_a names.now (StartA own.now))
         (run_a names.now (HeardA (record { own = own.now; challenge = c }))) [] []) }
-    ensures refused { IfErr result (λ e. e ≢ Memory →
-        Refuses S.opens S.checks delivery.now.ring.now delivery.now.hook.now.rules.items
-        (run_a names.now (StartA own.now)) delivery.now.term.now e) }
+    ensures refused { IfErr result
+        (Refuses S.opens S.checks delivery.now (run_a names.now (StartA own.now))) }
 {
     let items = read_message(
         delivery.term,
@@ -116,13 +115,14 @@ fn third_of<S: Sealer>(
     requires kinds { are_clear items.now 1 (Shows X5 ∷ []) ≡ true }
     requires items { message_items (1 ∷ 4 ∷ 3 ∷ 0 ∷ []) names.now.b (Shows X5 ∷ []) (true ∷ [])
         delivery.now.term.now ≡ Ok items.now }
-    requires opened { S.opens (key_of delivery.now.ring.now names.now) (at items.now 2) ≡ Some body.now }
-    ensures fit { IfOk result (λ v. Leads S.opens S.checks delivery.now.ring.now delivery.now.hook.now.rules.items
-        (run_a names.now (SentA known.now)) delivery.now.term.now
-        (run_a names.now (DoneA (record { sent = known.now; third = v }))) (opened_by delivery.now.ring.now names.now (at items.now 2) body.now) []) }
-    ensures refused { IfErr result (λ e. e ≢ Memory →
-        Refuses S.opens S.checks delivery.now.ring.now delivery.now.hook.now.rules.items
-        (run_a names.now (SentA known.now)) delivery.now.term.now e) }
+    requires opened { S.opens (key_of delivery.now.ring.now names.now) (at items.now 2)
+        ≡ Some body.now }
+    ensures fit { IfOk result (λ v. Leads S.opens S.checks delivery.now
+        (run_a names.now (SentA known.now))
+        (run_a names.now (DoneA (record { sent = known.now; third = v })))
+        (opened_by delivery.now.ring.now names.now (at items.now 2) body.now) []) }
+    ensures refused { IfErr result
+        (Refuses S.opens S.checks delivery.now (run_a names.now (SentA known.now))) }
 {
     let (a, b) = (names.a, names.b);
     let slots = read_body(
@@ -146,13 +146,12 @@ fn read_third<S: Sealer>(
     names: &Pair,
     known: &Sent,
 ) -> Result<(ThirdTaken, Vec<Opening>), Refusal>
-    requires parts { has_parts delivery.now.ring.now (run_a names.now (SentA known.now)).head ≡ true }
-    ensures fit { IfOk result (λ p. Leads S.opens S.checks delivery.now.ring.now delivery.now.hook.now.rules.items
-        (run_a names.now (SentA known.now)) delivery.now.term.now
-        (run_a names.now (DoneA p.0)) p.1.items []) }
-    ensures refused { IfErr result (λ e. e ≢ Memory →
-        Refuses S.opens S.checks delivery.now.ring.now delivery.now.hook.now.rules.items
-        (run_a names.now (SentA known.now)) delivery.now.term.now e) }
+    requires parts { has_parts delivery.now.ring.now
+        (run_a names.now (SentA known.now)).head ≡ true }
+    ensures fit { IfOk result (λ p. Leads S.opens S.checks delivery.now
+        (run_a names.now (SentA known.now)) (run_a names.now (DoneA p.0)) p.1.items []) }
+    ensures refused { IfErr result
+        (Refuses S.opens S.checks delivery.now (run_a names.now (SentA known.now))) }
 {
     let alloc = delivery.alloc;
     let items = read_message(
@@ -354,13 +353,14 @@ fn second_of<S: Sealer>(
     requires kinds { are_clear items.now 1 (Shows X3 ∷ []) ≡ true }
     requires items { message_items (1 ∷ 4 ∷ 2 ∷ 0 ∷ []) names.now.b (Shows X3 ∷ []) (true ∷ [])
         delivery.now.term.now ≡ Ok items.now }
-    requires opened { S.opens (key_of delivery.now.ring.now names.now) (at items.now 2) ≡ Some body.now }
-    ensures fit { IfOk result (λ v. Leads S.opens S.checks delivery.now.ring.now delivery.now.hook.now.rules.items
-        (run_b names.now (AskedB known.now)) delivery.now.term.now
-        (run_b names.now (HeardB (record { asked = known.now; second = v }))) (opened_by delivery.now.ring.now names.now (at items.now 2) body.now) []) }
-    ensures refused { IfErr result (λ e. e ≢ Memory →
-        Refuses S.opens S.checks delivery.now.ring.now delivery.now.hook.now.rules.items
-        (run_b names.now (AskedB known.now)) delivery.now.term.now e) }
+    requires opened { S.opens (key_of delivery.now.ring.now names.now) (at items.now 2)
+        ≡ Some body.now }
+    ensures fit { IfOk result (λ v. Leads S.opens S.checks delivery.now
+        (run_b names.now (AskedB known.now))
+        (run_b names.now (HeardB (record { asked = known.now; second = v })))
+        (opened_by delivery.now.ring.now names.now (at items.now 2) body.now) []) }
+    ensures refused { IfErr result
+        (Refuses S.opens S.checks delivery.now (run_b names.now (AskedB known.now))) }
 {
     let (a, b) = (names.a, names.b);
     let slots = read_body(
@@ -384,13 +384,12 @@ fn read_second<S: Sealer>(
     names: &Pair,
     known: &Challenging,
 ) -> Result<(SecondHeard, Vec<Opening>), Refusal>
-    requires parts { has_parts delivery.now.ring.now (run_b names.now (AskedB known.now)).head ≡ true }
-    ensures fit { IfOk result (λ p. Leads S.opens S.checks delivery.now.ring.now delivery.now.hook.now.rules.items
-        (run_b names.now (AskedB known.now)) delivery.now.term.now
-        (run_b names.now (HeardB p.0)) p.1.items []) }
-    ensures refused { IfErr result (λ e. e ≢ Memory →
-        Refuses S.opens S.checks delivery.now.ring.now delivery.now.hook.now.rules.items
-        (run_b names.now (AskedB known.now)) delivery.now.term.now e) }
+    requires parts { has_parts delivery.now.ring.now
+        (run_b names.now (AskedB known.now)).head ≡ true }
+    ensures fit { IfOk result (λ p. Leads S.opens S.checks delivery.now
+        (run_b names.now (AskedB known.now)) (run_b names.now (HeardB p.0)) p.1.items []) }
+    ensures refused { IfErr result
+        (Refuses S.opens S.checks delivery.now (run_b names.now (AskedB known.now))) }
 {
     let alloc = delivery.alloc;
     let items = read_message(

@@ -1,5 +1,7 @@
 -- The runs of B in C1.
-use Rattle.std.specs.Prelude.{ℕ, Bool, []}
+use Rattle.std.specs.Prelude.{ℕ, Bool, [], ◌∷◌}
+use Rattle.term_values.specs.Trees.{Bytes, Tree}
+use Rattle.term_values.specs.declared.small.Stamp.{Stamp}
 use Rattle.mech_rows.specs.declared.kinds.Mech.TheVariants.{C1}
 use Rattle.mech_rows.specs.declared.kinds.Role.TheVariants.{B}
 use Rattle.mech_rows.specs.Heads.{Head}
@@ -8,9 +10,15 @@ use Rattle.mech_rows.specs.Verdict.{Noted, State}
 use Rattle.text_hooks.specs.Names.{between}
 use Rattle.text_hooks.specs.Shown.{checked_token}
 use Rattle.text_hooks.specs.declared.names.Pair.{Pair}
+use Rattle.text_hooks.specs.Parts.{body_of}
+use Rattle.text_hooks.specs.declared.making.SlotValue.TheVariants.{Stamp as StampValue}
 use Rattle.roles_9798_4.specs.declared.c1.C1B.{C1B}
 use Rattle.roles_9798_4.specs.declared.c1.StageB.{StageB}
 use Rattle.roles_9798_4.specs.declared.c1.StageB.TheVariants.{Start, Done}
+
+-- what the check of the token covers
+abbrev pub covered : Pair → Stamp → Bytes → Tree
+covered n ta x1 = body_of (2 ∷ 1 ∷ 1 ∷ 1 ∷ []) (n.a ∷ n.b ∷ []) (StampValue ta ∷ []) x1
 
 -- the run at a pass
 abbrev pub at : Pair → ℕ → Noted → State

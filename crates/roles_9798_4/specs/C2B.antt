@@ -1,6 +1,6 @@
 -- The runs of B in C2.
 use Rattle.std.specs.Prelude.{ℕ, Bool, [], ◌∷◌, ◌++◌}
-use Rattle.term_values.specs.Trees.{text}
+use Rattle.term_values.specs.Trees.{text, Bytes, Tree}
 use Rattle.mech_rows.specs.declared.kinds.Mech.TheVariants.{C2}
 use Rattle.mech_rows.specs.declared.kinds.Role.TheVariants.{B}
 use Rattle.mech_rows.specs.declared.kinds.Slot.TheVariants.{X2, X3}
@@ -11,6 +11,9 @@ use Rattle.text_hooks.specs.Names.{between}
 use Rattle.text_hooks.specs.Known.{asked}
 use Rattle.text_hooks.specs.Shown.{challenge_text}
 use Rattle.text_hooks.specs.declared.names.Pair.{Pair}
+use Rattle.text_hooks.specs.Parts.{body_of}
+use Rattle.text_hooks.specs.declared.making.SlotValue.TheVariants.{Nonce as NonceValue}
+use Rattle.text_hooks.specs.declared.known.Asked.{Asked as Known}
 use Rattle.roles_9798_4.specs.declared.c2.Answer.{Answer}
 use Rattle.roles_9798_4.specs.declared.c2.C2B.{C2B}
 use Rattle.roles_9798_4.specs.declared.c2.StageB.{StageB}
@@ -19,6 +22,10 @@ use Rattle.roles_9798_4.specs.declared.c2.StageB.TheVariants.{Start, Asked, Done
 -- what the answer shows
 abbrev pub answer : Answer → Noted
 answer m = (X2, text m.x2) ∷ (X3, text m.x3) ∷ []
+
+-- what the check of the answer covers
+abbrev pub covered : Pair → Known → Bytes → Tree
+covered n known x2 = body_of (2 ∷ 2 ∷ 2 ∷ 1 ∷ []) (n.a ∷ n.b ∷ []) (NonceValue known.rb ∷ []) x2
 
 -- the run at a pass
 abbrev pub at : Pair → ℕ → Noted → State

@@ -1,6 +1,7 @@
 -- The runs of A in C3.
 use Rattle.std.specs.Prelude.{ℕ, Bool, [], ◌∷◌, ◌++◌}
-use Rattle.term_values.specs.Trees.{stamp, text}
+use Rattle.term_values.specs.Trees.{stamp, text, Bytes, Tree}
+use Rattle.term_values.specs.declared.small.Stamp.{Stamp}
 use Rattle.mech_rows.specs.declared.kinds.Mech.TheVariants.{C3}
 use Rattle.mech_rows.specs.declared.kinds.Role.TheVariants.{A}
 use Rattle.mech_rows.specs.declared.kinds.Slot.TheVariants.{Tb, X3, X4}
@@ -11,6 +12,8 @@ use Rattle.text_hooks.specs.Names.{between}
 use Rattle.text_hooks.specs.Known.{stamped}
 use Rattle.text_hooks.specs.Shown.{first_texts}
 use Rattle.text_hooks.specs.declared.names.Pair.{Pair}
+use Rattle.text_hooks.specs.Parts.{body_of}
+use Rattle.text_hooks.specs.declared.making.SlotValue.TheVariants.{Stamp as StampValue}
 use Rattle.roles_9798_4.specs.declared.c3.ReturnToken.{ReturnToken}
 use Rattle.roles_9798_4.specs.declared.c3.C3A.{C3A}
 use Rattle.roles_9798_4.specs.declared.c3.StageA.{StageA}
@@ -19,6 +22,10 @@ use Rattle.roles_9798_4.specs.declared.c3.StageA.TheVariants.{Start, Sent, Done}
 -- what the token in return shows
 abbrev pub return_token : ReturnToken → Noted
 return_token m = (Tb, stamp m.tb) ∷ (X3, text m.x3) ∷ (X4, text m.x4) ∷ []
+
+-- what the check of the second token covers
+abbrev pub covered : Pair → Stamp → Bytes → Tree
+covered n tb x3 = body_of (2 ∷ 3 ∷ 2 ∷ 1 ∷ []) (n.a ∷ n.b ∷ []) (StampValue tb ∷ []) x3
 
 -- the run at a pass
 abbrev pub at : Pair → ℕ → Noted → State

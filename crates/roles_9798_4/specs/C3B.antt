@@ -1,6 +1,7 @@
 -- The runs of B in C3.
 use Rattle.std.specs.Prelude.{ℕ, Bool, [], ◌∷◌, ◌++◌}
-use Rattle.term_values.specs.Trees.{stamp}
+use Rattle.term_values.specs.Trees.{stamp, Bytes, Tree}
+use Rattle.term_values.specs.declared.small.Stamp.{Stamp}
 use Rattle.mech_rows.specs.declared.kinds.Mech.TheVariants.{C3}
 use Rattle.mech_rows.specs.declared.kinds.Role.TheVariants.{B}
 use Rattle.mech_rows.specs.declared.kinds.Slot.TheVariants.{Tb}
@@ -10,6 +11,8 @@ use Rattle.mech_rows.specs.Verdict.{Noted, State}
 use Rattle.text_hooks.specs.Names.{between}
 use Rattle.text_hooks.specs.Shown.{answer_texts, checked_token}
 use Rattle.text_hooks.specs.declared.names.Pair.{Pair}
+use Rattle.text_hooks.specs.Parts.{body_of}
+use Rattle.text_hooks.specs.declared.making.SlotValue.TheVariants.{Stamp as StampValue}
 use Rattle.roles_9798_4.specs.declared.c3.TokenHeard.{TokenHeard}
 use Rattle.roles_9798_4.specs.declared.c3.C3B.{C3B}
 use Rattle.roles_9798_4.specs.declared.c3.StageB.{StageB}
@@ -18,6 +21,10 @@ use Rattle.roles_9798_4.specs.declared.c3.StageB.TheVariants.{Start, Heard, Done
 -- once it has heard the token of A
 abbrev pub token_heard : TokenHeard → Noted
 token_heard m = answer_texts m.own ++ checked_token m.token
+
+-- what the check of the first token covers
+abbrev pub covered : Pair → Stamp → Bytes → Tree
+covered n ta x1 = body_of (2 ∷ 3 ∷ 1 ∷ 1 ∷ []) (n.a ∷ n.b ∷ []) (StampValue ta ∷ []) x1
 
 -- the run at a pass
 abbrev pub at : Pair → ℕ → Noted → State

@@ -1,6 +1,6 @@
 -- The runs of A in C4.
 use Rattle.std.specs.Prelude.{ℕ, Bool, [], ◌∷◌, ◌++◌}
-use Rattle.term_values.specs.Trees.{text}
+use Rattle.term_values.specs.Trees.{text, Bytes, Tree}
 use Rattle.mech_rows.specs.declared.kinds.Mech.TheVariants.{C4}
 use Rattle.mech_rows.specs.declared.kinds.Role.TheVariants.{A}
 use Rattle.mech_rows.specs.declared.kinds.Slot.TheVariants.{X4, X5}
@@ -11,6 +11,9 @@ use Rattle.text_hooks.specs.Names.{between}
 use Rattle.text_hooks.specs.Known.{challenged, sent}
 use Rattle.text_hooks.specs.Shown.{second_texts}
 use Rattle.text_hooks.specs.declared.names.Pair.{Pair}
+use Rattle.text_hooks.specs.Parts.{body_of}
+use Rattle.text_hooks.specs.declared.making.SlotValue.TheVariants.{Nonce as NonceValue}
+use Rattle.text_hooks.specs.declared.known.Sent.{Sent as Known}
 use Rattle.roles_9798_4.specs.declared.c4.Third.{Third}
 use Rattle.roles_9798_4.specs.declared.c4.C4A.{C4A}
 use Rattle.roles_9798_4.specs.declared.c4.StageA.{StageA}
@@ -19,6 +22,10 @@ use Rattle.roles_9798_4.specs.declared.c4.StageA.TheVariants.{Start, Heard, Sent
 -- what the third message shows
 abbrev pub third : Third → Noted
 third m = (X4, text m.x4) ∷ (X5, text m.x5) ∷ []
+
+-- what the check of the third message covers
+abbrev pub covered : Pair → Known → Bytes → Tree
+covered n known x4 = body_of (2 ∷ 4 ∷ 3 ∷ 1 ∷ []) (n.a ∷ n.b ∷ []) (NonceValue known.challenge.rb ∷ NonceValue known.ra ∷ []) x4
 
 -- the run at a pass
 abbrev pub at : Pair → ℕ → Noted → State

@@ -1,6 +1,6 @@
 -- The runs of B in C4.
 use Rattle.std.specs.Prelude.{ℕ, Bool, [], ◌∷◌, ◌++◌}
-use Rattle.term_values.specs.Trees.{nonce, text}
+use Rattle.term_values.specs.Trees.{nonce, text, Bytes, Tree}
 use Rattle.mech_rows.specs.declared.kinds.Mech.TheVariants.{C4}
 use Rattle.mech_rows.specs.declared.kinds.Role.TheVariants.{B}
 use Rattle.mech_rows.specs.declared.kinds.Slot.TheVariants.{Ra, X2, X3}
@@ -11,6 +11,9 @@ use Rattle.text_hooks.specs.Names.{between}
 use Rattle.text_hooks.specs.Known.{challenging}
 use Rattle.text_hooks.specs.Shown.{challenger_texts}
 use Rattle.text_hooks.specs.declared.names.Pair.{Pair}
+use Rattle.text_hooks.specs.Parts.{body_of}
+use Rattle.text_hooks.specs.declared.making.SlotValue.TheVariants.{Nonce as NonceValue}
+use Rattle.text_hooks.specs.declared.known.Challenging.{Challenging}
 use Rattle.roles_9798_4.specs.declared.c4.Second.{Second}
 use Rattle.roles_9798_4.specs.declared.c4.C4B.{C4B}
 use Rattle.roles_9798_4.specs.declared.c4.StageB.{StageB}
@@ -19,6 +22,10 @@ use Rattle.roles_9798_4.specs.declared.c4.StageB.TheVariants.{Start, Asked, Hear
 -- what the second message shows
 abbrev pub second : Second → Noted
 second m = (Ra, nonce m.ra) ∷ (X2, text m.x2) ∷ (X3, text m.x3) ∷ []
+
+-- what the check of the second message covers
+abbrev pub covered : Pair → Challenging → Bytes → Bytes → Tree
+covered n known ra x2 = body_of (2 ∷ 4 ∷ 2 ∷ 1 ∷ []) (n.a ∷ n.b ∷ []) (NonceValue ra ∷ NonceValue known.rb ∷ []) x2
 
 -- the run at a pass
 abbrev pub at : Pair → ℕ → Noted → State

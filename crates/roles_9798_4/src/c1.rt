@@ -7,10 +7,8 @@ ghost use Rattle.mech_rows.specs.Openings.{has_parts};
 ghost use Rattle.mech_rows.specs.Verdict.{at, message_items};
 ghost use Rattle.text_hooks.specs.Leading.{Leads, Refuses};
 ghost use Rattle.text_hooks.specs.Names.{key_of, opened_by};
-ghost use Rattle.text_hooks.specs.Parts.{body_of};
-ghost use Rattle.text_hooks.specs.declared.making.SlotValue.TheVariants.{Stamp as StampValue};
 ghost use Rattle.roles_9798_4.specs.C1A.{is_c1a};
-ghost use Rattle.roles_9798_4.specs.C1B.{is_c1b, run as run_b};
+ghost use Rattle.roles_9798_4.specs.C1B.{covered, is_c1b, run as run_b};
 ghost use Rattle.roles_9798_4.specs.declared.c1.StageB.TheVariants.{Start as StartB, Done as DoneB};
 
 // Pass 1, A to B: Ta, X1, X2 in the clear, and a check of Ta, X1.
@@ -172,21 +170,20 @@ fn first_of<S: Sealer>(
     x1: &Text,
     x2: &Text,
 ) -> Result<(CheckedToken, Got), Refusal>
-    requires items { message_items (2 ∷ 1 ∷ 1 ∷ 0 ∷ []) names.now.b (Shows Ta ∷ Shows X1 ∷ Shows X2 ∷ []) (true ∷ [])
-        delivery.now.term.now ≡ Ok items.now }
+    requires items { message_items (2 ∷ 1 ∷ 1 ∷ 0 ∷ []) names.now.b
+        (Shows Ta ∷ Shows X1 ∷ Shows X2 ∷ []) (true ∷ []) delivery.now.term.now ≡ Ok items.now }
     requires ta { at items.now 1 ≡ stamp ta }
     requires x1 { at items.now 2 ≡ text x1.now }
     requires x2 { at items.now 3 ≡ text x2.now }
     requires checked { S.checks (key_of delivery.now.ring.now names.now)
-        (body_of (2 ∷ 1 ∷ 1 ∷ 1 ∷ []) (names.now.a ∷ names.now.b ∷ []) (StampValue ta ∷ []) x1.now)
+        (covered names.now ta x1.now)
         (at items.now 4) ≡ true }
-    ensures fit { IfOk result (λ v. Leads S.opens S.checks delivery.now.ring.now delivery.now.hook.now.rules.items
-        (run_b names.now StartB) delivery.now.term.now
-        (run_b names.now (DoneB v.0)) (opened_by delivery.now.ring.now names.now (at items.now 4)
-        (body_of (2 ∷ 1 ∷ 1 ∷ 1 ∷ []) (names.now.a ∷ names.now.b ∷ []) (StampValue ta ∷ []) x1.now)) (v.1 ∷ [])) }
-    ensures refused { IfErr result (λ e. e ≢ Memory →
-        Refuses S.opens S.checks delivery.now.ring.now delivery.now.hook.now.rules.items
-        (run_b names.now StartB) delivery.now.term.now e) }
+    ensures fit { IfOk result (λ v. Leads S.opens S.checks delivery.now
+        (run_b names.now StartB) (run_b names.now (DoneB v.0))
+        (opened_by delivery.now.ring.now names.now (at items.now 4) (covered names.now ta x1.now))
+        (v.1 ∷ [])) }
+    ensures refused { IfErr result
+        (Refuses S.opens S.checks delivery.now (run_b names.now StartB)) }
 {
     let x1 = (Slot::X1, x1);
     let x2 = (Slot::X2, x2);
@@ -206,12 +203,10 @@ fn read_first<S: Sealer>(
     names: &Pair,
 ) -> Result<(CheckedToken, Vec<Opening>, Vec<Got>), Refusal>
     requires parts { has_parts delivery.now.ring.now (run_b names.now StartB).head ≡ true }
-    ensures fit { IfOk result (λ p. Leads S.opens S.checks delivery.now.ring.now delivery.now.hook.now.rules.items
-        (run_b names.now StartB) delivery.now.term.now
-        (run_b names.now (DoneB p.0)) p.1.items p.2.items) }
-    ensures refused { IfErr result (λ e. e ≢ Memory →
-        Refuses S.opens S.checks delivery.now.ring.now delivery.now.hook.now.rules.items
-        (run_b names.now StartB) delivery.now.term.now e) }
+    ensures fit { IfOk result (λ p. Leads S.opens S.checks delivery.now
+        (run_b names.now StartB) (run_b names.now (DoneB p.0)) p.1.items p.2.items) }
+    ensures refused { IfErr result
+        (Refuses S.opens S.checks delivery.now (run_b names.now StartB)) }
 {
     let alloc = delivery.alloc;
     let items = read_message(

@@ -7,10 +7,8 @@ ghost use Rattle.mech_rows.specs.Openings.{has_parts};
 ghost use Rattle.mech_rows.specs.Verdict.{at, message_items};
 ghost use Rattle.text_hooks.specs.Leading.{Leads, Refuses};
 ghost use Rattle.text_hooks.specs.Names.{key_of, opened_by};
-ghost use Rattle.text_hooks.specs.Parts.{body_of};
-ghost use Rattle.text_hooks.specs.declared.making.SlotValue.TheVariants.{Nonce as NonceValue};
 ghost use Rattle.roles_9798_4.specs.C2A.{is_c2a, run as run_a};
-ghost use Rattle.roles_9798_4.specs.C2B.{is_c2b, run as run_b};
+ghost use Rattle.roles_9798_4.specs.C2B.{covered, is_c2b, run as run_b};
 ghost use Rattle.roles_9798_4.specs.declared.c2.StageA.TheVariants.{Start as StartA, Heard as HeardA};
 ghost use Rattle.roles_9798_4.specs.declared.c2.StageB.TheVariants.{Asked as AskedB, Done as DoneB};
 
@@ -59,12 +57,11 @@ fn read_challenge<S: Sealer>(
     names: &Pair,
     own: &SecondTexts,
 ) -> Result<Challenge, Refusal>
-    ensures fit { IfOk result (λ c. Leads S.opens S.checks delivery.now.ring.now delivery.now.hook.now.rules.items
-        (run_a names.now (StartA own.now)) delivery.now.term.now
+    ensures fit { IfOk result (λ c. Leads S.opens S.checks delivery.now
+        (run_a names.now (StartA own.now))
         (run_a names.now (HeardA (record { own = own.now; challenge = c }))) [] []) }
-    ensures refused { IfErr result (λ e. e ≢ Memory →
-        Refuses S.opens S.checks delivery.now.ring.now delivery.now.hook.now.rules.items
-        (run_a names.now (StartA own.now)) delivery.now.term.now e) }
+    ensures refused { IfErr result
+        (Refuses S.opens S.checks delivery.now (run_a names.now (StartA own.now))) }
 {
     let items = read_message(
         delivery.term,
@@ -243,20 +240,20 @@ fn answer_of<S: Sealer>(
     x2: &Text,
     x3: &Text,
 ) -> Result<Answer, Refusal>
-    requires items { message_items (2 ∷ 2 ∷ 2 ∷ 0 ∷ []) names.now.b (Shows X2 ∷ Shows X3 ∷ []) (true ∷ [])
-        delivery.now.term.now ≡ Ok items.now }
+    requires items { message_items (2 ∷ 2 ∷ 2 ∷ 0 ∷ []) names.now.b (Shows X2 ∷ Shows X3 ∷ [])
+        (true ∷ []) delivery.now.term.now ≡ Ok items.now }
     requires x2 { at items.now 1 ≡ text x2.now }
     requires x3 { at items.now 2 ≡ text x3.now }
     requires checked { S.checks (key_of delivery.now.ring.now names.now)
-        (body_of (2 ∷ 2 ∷ 2 ∷ 1 ∷ []) (names.now.a ∷ names.now.b ∷ []) (NonceValue known.now.rb ∷ []) x2.now)
+        (covered names.now known.now x2.now)
         (at items.now 3) ≡ true }
-    ensures fit { IfOk result (λ v. Leads S.opens S.checks delivery.now.ring.now delivery.now.hook.now.rules.items
-        (run_b names.now (AskedB known.now)) delivery.now.term.now
-        (run_b names.now (DoneB (record { asked = known.now; answer = v }))) (opened_by delivery.now.ring.now names.now (at items.now 3)
-        (body_of (2 ∷ 2 ∷ 2 ∷ 1 ∷ []) (names.now.a ∷ names.now.b ∷ []) (NonceValue known.now.rb ∷ []) x2.now)) []) }
-    ensures refused { IfErr result (λ e. e ≢ Memory →
-        Refuses S.opens S.checks delivery.now.ring.now delivery.now.hook.now.rules.items
-        (run_b names.now (AskedB known.now)) delivery.now.term.now e) }
+    ensures fit { IfOk result (λ v. Leads S.opens S.checks delivery.now
+        (run_b names.now (AskedB known.now))
+        (run_b names.now (DoneB (record { asked = known.now; answer = v })))
+        (opened_by delivery.now.ring.now names.now (at items.now 3) (covered names.now known.now x2.now))
+        []) }
+    ensures refused { IfErr result
+        (Refuses S.opens S.checks delivery.now (run_b names.now (AskedB known.now))) }
 {
     let x2 = (Slot::X2, x2);
     let x3 = (Slot::X3, x3);
@@ -270,13 +267,12 @@ fn read_answer<S: Sealer>(
     names: &Pair,
     known: &Asked,
 ) -> Result<(AnswerTaken, Vec<Opening>), Refusal>
-    requires parts { has_parts delivery.now.ring.now (run_b names.now (AskedB known.now)).head ≡ true }
-    ensures fit { IfOk result (λ p. Leads S.opens S.checks delivery.now.ring.now delivery.now.hook.now.rules.items
-        (run_b names.now (AskedB known.now)) delivery.now.term.now
-        (run_b names.now (DoneB p.0)) p.1.items []) }
-    ensures refused { IfErr result (λ e. e ≢ Memory →
-        Refuses S.opens S.checks delivery.now.ring.now delivery.now.hook.now.rules.items
-        (run_b names.now (AskedB known.now)) delivery.now.term.now e) }
+    requires parts { has_parts delivery.now.ring.now
+        (run_b names.now (AskedB known.now)).head ≡ true }
+    ensures fit { IfOk result (λ p. Leads S.opens S.checks delivery.now
+        (run_b names.now (AskedB known.now)) (run_b names.now (DoneB p.0)) p.1.items []) }
+    ensures refused { IfErr result
+        (Refuses S.opens S.checks delivery.now (run_b names.now (AskedB known.now))) }
 {
     let alloc = delivery.alloc;
     let items = read_message(

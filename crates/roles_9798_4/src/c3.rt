@@ -7,10 +7,8 @@ ghost use Rattle.mech_rows.specs.Openings.{has_parts};
 ghost use Rattle.mech_rows.specs.Verdict.{at, message_items};
 ghost use Rattle.text_hooks.specs.Leading.{Leads, Refuses};
 ghost use Rattle.text_hooks.specs.Names.{key_of, opened_by};
-ghost use Rattle.text_hooks.specs.Parts.{body_of};
-ghost use Rattle.text_hooks.specs.declared.making.SlotValue.TheVariants.{Stamp as StampValue};
-ghost use Rattle.roles_9798_4.specs.C3A.{is_c3a, run as run_a};
-ghost use Rattle.roles_9798_4.specs.C3B.{is_c3b, run as run_b};
+ghost use Rattle.roles_9798_4.specs.C3A.{covered as covered_a, is_c3a, run as run_a};
+ghost use Rattle.roles_9798_4.specs.C3B.{covered as covered_b, is_c3b, run as run_b};
 ghost use Rattle.roles_9798_4.specs.declared.c3.StageA.TheVariants.{Sent as SentA, Done as DoneA};
 ghost use Rattle.roles_9798_4.specs.declared.c3.StageB.TheVariants.{Start as StartB, Heard as HeardB};
 
@@ -91,21 +89,21 @@ fn second_of<S: Sealer>(
     x3: &Text,
     x4: &Text,
 ) -> Result<(ReturnToken, Got), Refusal>
-    requires items { message_items (2 ∷ 3 ∷ 2 ∷ 0 ∷ []) names.now.b (Shows Tb ∷ Shows X3 ∷ Shows X4 ∷ []) (true ∷ [])
-        delivery.now.term.now ≡ Ok items.now }
+    requires items { message_items (2 ∷ 3 ∷ 2 ∷ 0 ∷ []) names.now.b
+        (Shows Tb ∷ Shows X3 ∷ Shows X4 ∷ []) (true ∷ []) delivery.now.term.now ≡ Ok items.now }
     requires tb { at items.now 1 ≡ stamp tb }
     requires x3 { at items.now 2 ≡ text x3.now }
     requires x4 { at items.now 3 ≡ text x4.now }
     requires checked { S.checks (key_of delivery.now.ring.now names.now)
-        (body_of (2 ∷ 3 ∷ 2 ∷ 1 ∷ []) (names.now.a ∷ names.now.b ∷ []) (StampValue tb ∷ []) x3.now)
+        (covered_a names.now tb x3.now)
         (at items.now 4) ≡ true }
-    ensures fit { IfOk result (λ v. Leads S.opens S.checks delivery.now.ring.now delivery.now.hook.now.rules.items
-        (run_a names.now (SentA known.now)) delivery.now.term.now
-        (run_a names.now (DoneA (record { sent = known.now; token = v.0 }))) (opened_by delivery.now.ring.now names.now (at items.now 4)
-        (body_of (2 ∷ 3 ∷ 2 ∷ 1 ∷ []) (names.now.a ∷ names.now.b ∷ []) (StampValue tb ∷ []) x3.now)) (v.1 ∷ [])) }
-    ensures refused { IfErr result (λ e. e ≢ Memory →
-        Refuses S.opens S.checks delivery.now.ring.now delivery.now.hook.now.rules.items
-        (run_a names.now (SentA known.now)) delivery.now.term.now e) }
+    ensures fit { IfOk result (λ v. Leads S.opens S.checks delivery.now
+        (run_a names.now (SentA known.now))
+        (run_a names.now (DoneA (record { sent = known.now; token = v.0 })))
+        (opened_by delivery.now.ring.now names.now (at items.now 4) (covered_a names.now tb x3.now))
+        (v.1 ∷ [])) }
+    ensures refused { IfErr result
+        (Refuses S.opens S.checks delivery.now (run_a names.now (SentA known.now))) }
 {
     let x3 = (Slot::X3, x3);
     let x4 = (Slot::X4, x4);
@@ -125,13 +123,12 @@ fn read_second<S: Sealer>(
     names: &Pair,
     known: &Stamped,
 ) -> Result<(ReturnTaken, Vec<Opening>, Vec<Got>), Refusal>
-    requires parts { has_parts delivery.now.ring.now (run_a names.now (SentA known.now)).head ≡ true }
-    ensures fit { IfOk result (λ p. Leads S.opens S.checks delivery.now.ring.now delivery.now.hook.now.rules.items
-        (run_a names.now (SentA known.now)) delivery.now.term.now
-        (run_a names.now (DoneA p.0)) p.1.items p.2.items) }
-    ensures refused { IfErr result (λ e. e ≢ Memory →
-        Refuses S.opens S.checks delivery.now.ring.now delivery.now.hook.now.rules.items
-        (run_a names.now (SentA known.now)) delivery.now.term.now e) }
+    requires parts { has_parts delivery.now.ring.now
+        (run_a names.now (SentA known.now)).head ≡ true }
+    ensures fit { IfOk result (λ p. Leads S.opens S.checks delivery.now
+        (run_a names.now (SentA known.now)) (run_a names.now (DoneA p.0)) p.1.items p.2.items) }
+    ensures refused { IfErr result
+        (Refuses S.opens S.checks delivery.now (run_a names.now (SentA known.now))) }
 {
     let alloc = delivery.alloc;
     let items = read_message(
@@ -332,21 +329,21 @@ fn first_of<S: Sealer>(
     x1: &Text,
     x2: &Text,
 ) -> Result<(CheckedToken, Got), Refusal>
-    requires items { message_items (2 ∷ 3 ∷ 1 ∷ 0 ∷ []) names.now.b (Shows Ta ∷ Shows X1 ∷ Shows X2 ∷ []) (true ∷ [])
-        delivery.now.term.now ≡ Ok items.now }
+    requires items { message_items (2 ∷ 3 ∷ 1 ∷ 0 ∷ []) names.now.b
+        (Shows Ta ∷ Shows X1 ∷ Shows X2 ∷ []) (true ∷ []) delivery.now.term.now ≡ Ok items.now }
     requires ta { at items.now 1 ≡ stamp ta }
     requires x1 { at items.now 2 ≡ text x1.now }
     requires x2 { at items.now 3 ≡ text x2.now }
     requires checked { S.checks (key_of delivery.now.ring.now names.now)
-        (body_of (2 ∷ 3 ∷ 1 ∷ 1 ∷ []) (names.now.a ∷ names.now.b ∷ []) (StampValue ta ∷ []) x1.now)
+        (covered_b names.now ta x1.now)
         (at items.now 4) ≡ true }
-    ensures fit { IfOk result (λ v. Leads S.opens S.checks delivery.now.ring.now delivery.now.hook.now.rules.items
-        (run_b names.now (StartB known.now)) delivery.now.term.now
-        (run_b names.now (HeardB (record { own = known.now; token = v.0 }))) (opened_by delivery.now.ring.now names.now (at items.now 4)
-        (body_of (2 ∷ 3 ∷ 1 ∷ 1 ∷ []) (names.now.a ∷ names.now.b ∷ []) (StampValue ta ∷ []) x1.now)) (v.1 ∷ [])) }
-    ensures refused { IfErr result (λ e. e ≢ Memory →
-        Refuses S.opens S.checks delivery.now.ring.now delivery.now.hook.now.rules.items
-        (run_b names.now (StartB known.now)) delivery.now.term.now e) }
+    ensures fit { IfOk result (λ v. Leads S.opens S.checks delivery.now
+        (run_b names.now (StartB known.now))
+        (run_b names.now (HeardB (record { own = known.now; token = v.0 })))
+        (opened_by delivery.now.ring.now names.now (at items.now 4) (covered_b names.now ta x1.now))
+        (v.1 ∷ [])) }
+    ensures refused { IfErr result
+        (Refuses S.opens S.checks delivery.now (run_b names.now (StartB known.now))) }
 {
     let x1 = (Slot::X1, x1);
     let x2 = (Slot::X2, x2);
@@ -366,13 +363,12 @@ fn read_first<S: Sealer>(
     names: &Pair,
     known: &AnswerTexts,
 ) -> Result<(TokenHeard, Vec<Opening>, Vec<Got>), Refusal>
-    requires parts { has_parts delivery.now.ring.now (run_b names.now (StartB known.now)).head ≡ true }
-    ensures fit { IfOk result (λ p. Leads S.opens S.checks delivery.now.ring.now delivery.now.hook.now.rules.items
-        (run_b names.now (StartB known.now)) delivery.now.term.now
-        (run_b names.now (HeardB p.0)) p.1.items p.2.items) }
-    ensures refused { IfErr result (λ e. e ≢ Memory →
-        Refuses S.opens S.checks delivery.now.ring.now delivery.now.hook.now.rules.items
-        (run_b names.now (StartB known.now)) delivery.now.term.now e) }
+    requires parts { has_parts delivery.now.ring.now
+        (run_b names.now (StartB known.now)).head ≡ true }
+    ensures fit { IfOk result (λ p. Leads S.opens S.checks delivery.now
+        (run_b names.now (StartB known.now)) (run_b names.now (HeardB p.0)) p.1.items p.2.items) }
+    ensures refused { IfErr result
+        (Refuses S.opens S.checks delivery.now (run_b names.now (StartB known.now))) }
 {
     let alloc = delivery.alloc;
     let items = read_message(

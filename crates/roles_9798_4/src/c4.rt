@@ -7,10 +7,8 @@ ghost use Rattle.mech_rows.specs.Openings.{has_parts};
 ghost use Rattle.mech_rows.specs.Verdict.{at, message_items};
 ghost use Rattle.text_hooks.specs.Leading.{Leads, Refuses};
 ghost use Rattle.text_hooks.specs.Names.{key_of, opened_by};
-ghost use Rattle.text_hooks.specs.Parts.{body_of};
-ghost use Rattle.text_hooks.specs.declared.making.SlotValue.TheVariants.{Nonce as NonceValue};
-ghost use Rattle.roles_9798_4.specs.C4A.{is_c4a, run as run_a};
-ghost use Rattle.roles_9798_4.specs.C4B.{is_c4b, run as run_b};
+ghost use Rattle.roles_9798_4.specs.C4A.{covered as covered_a, is_c4a, run as run_a};
+ghost use Rattle.roles_9798_4.specs.C4B.{covered as covered_b, is_c4b, run as run_b};
 ghost use Rattle.roles_9798_4.specs.declared.c4.StageA.TheVariants.{Start as StartA, Heard as HeardA, Sent as SentA, Done as DoneA};
 ghost use Rattle.roles_9798_4.specs.declared.c4.StageB.TheVariants.{Asked as AskedB, Heard as HeardB};
 
@@ -87,12 +85,11 @@ fn read_challenge<S: Sealer>(
     names: &Pair,
     own: &SecondTexts,
 ) -> Result<Challenge, Refusal>
-    ensures fit { IfOk result (λ c. Leads S.opens S.checks delivery.now.ring.now delivery.now.hook.now.rules.items
-        (run_a names.now (StartA own.now)) delivery.now.term.now
+    ensures fit { IfOk result (λ c. Leads S.opens S.checks delivery.now
+        (run_a names.now (StartA own.now))
         (run_a names.now (HeardA (record { own = own.now; challenge = c }))) [] []) }
-    ensures refused { IfErr result (λ e. e ≢ Memory →
-        Refuses S.opens S.checks delivery.now.ring.now delivery.now.hook.now.rules.items
-        (run_a names.now (StartA own.now)) delivery.now.term.now e) }
+    ensures refused { IfErr result
+        (Refuses S.opens S.checks delivery.now (run_a names.now (StartA own.now))) }
 {
     let items = read_message(
         delivery.term,
@@ -116,20 +113,20 @@ fn third_of<S: Sealer>(
     x4: &Text,
     x5: &Text,
 ) -> Result<Third, Refusal>
-    requires items { message_items (2 ∷ 4 ∷ 3 ∷ 0 ∷ []) names.now.b (Shows X4 ∷ Shows X5 ∷ []) (true ∷ [])
-        delivery.now.term.now ≡ Ok items.now }
+    requires items { message_items (2 ∷ 4 ∷ 3 ∷ 0 ∷ []) names.now.b (Shows X4 ∷ Shows X5 ∷ [])
+        (true ∷ []) delivery.now.term.now ≡ Ok items.now }
     requires x4 { at items.now 1 ≡ text x4.now }
     requires x5 { at items.now 2 ≡ text x5.now }
     requires checked { S.checks (key_of delivery.now.ring.now names.now)
-        (body_of (2 ∷ 4 ∷ 3 ∷ 1 ∷ []) (names.now.a ∷ names.now.b ∷ []) (NonceValue known.now.challenge.rb ∷ NonceValue known.now.ra ∷ []) x4.now)
+        (covered_a names.now known.now x4.now)
         (at items.now 3) ≡ true }
-    ensures fit { IfOk result (λ v. Leads S.opens S.checks delivery.now.ring.now delivery.now.hook.now.rules.items
-        (run_a names.now (SentA known.now)) delivery.now.term.now
-        (run_a names.now (DoneA (record { sent = known.now; third = v }))) (opened_by delivery.now.ring.now names.now (at items.now 3)
-        (body_of (2 ∷ 4 ∷ 3 ∷ 1 ∷ []) (names.now.a ∷ names.now.b ∷ []) (NonceValue known.now.challenge.rb ∷ NonceValue known.now.ra ∷ []) x4.now)) []) }
-    ensures refused { IfErr result (λ e. e ≢ Memory →
-        Refuses S.opens S.checks delivery.now.ring.now delivery.now.hook.now.rules.items
-        (run_a names.now (SentA known.now)) delivery.now.term.now e) }
+    ensures fit { IfOk result (λ v. Leads S.opens S.checks delivery.now
+        (run_a names.now (SentA known.now))
+        (run_a names.now (DoneA (record { sent = known.now; third = v })))
+        (opened_by delivery.now.ring.now names.now (at items.now 3) (covered_a names.now known.now x4.now))
+        []) }
+    ensures refused { IfErr result
+        (Refuses S.opens S.checks delivery.now (run_a names.now (SentA known.now))) }
 {
     let x4 = (Slot::X4, x4);
     let x5 = (Slot::X5, x5);
@@ -143,13 +140,12 @@ fn read_third<S: Sealer>(
     names: &Pair,
     known: &Sent,
 ) -> Result<(ThirdTaken, Vec<Opening>), Refusal>
-    requires parts { has_parts delivery.now.ring.now (run_a names.now (SentA known.now)).head ≡ true }
-    ensures fit { IfOk result (λ p. Leads S.opens S.checks delivery.now.ring.now delivery.now.hook.now.rules.items
-        (run_a names.now (SentA known.now)) delivery.now.term.now
-        (run_a names.now (DoneA p.0)) p.1.items []) }
-    ensures refused { IfErr result (λ e. e ≢ Memory →
-        Refuses S.opens S.checks delivery.now.ring.now delivery.now.hook.now.rules.items
-        (run_a names.now (SentA known.now)) delivery.now.term.now e) }
+    requires parts { has_parts delivery.now.ring.now
+        (run_a names.now (SentA known.now)).head ≡ true }
+    ensures fit { IfOk result (λ p. Leads S.opens S.checks delivery.now
+        (run_a names.now (SentA known.now)) (run_a names.now (DoneA p.0)) p.1.items []) }
+    ensures refused { IfErr result
+        (Refuses S.opens S.checks delivery.now (run_a names.now (SentA known.now))) }
 {
     let alloc = delivery.alloc;
     let items = read_message(
@@ -369,21 +365,21 @@ fn second_of<S: Sealer>(
     x2: &Text,
     x3: &Text,
 ) -> Result<Second, Refusal>
-    requires items { message_items (2 ∷ 4 ∷ 2 ∷ 0 ∷ []) names.now.b (Shows Ra ∷ Shows X2 ∷ Shows X3 ∷ []) (true ∷ [])
-        delivery.now.term.now ≡ Ok items.now }
+    requires items { message_items (2 ∷ 4 ∷ 2 ∷ 0 ∷ []) names.now.b
+        (Shows Ra ∷ Shows X2 ∷ Shows X3 ∷ []) (true ∷ []) delivery.now.term.now ≡ Ok items.now }
     requires ra { at items.now 1 ≡ nonce ra }
     requires x2 { at items.now 2 ≡ text x2.now }
     requires x3 { at items.now 3 ≡ text x3.now }
     requires checked { S.checks (key_of delivery.now.ring.now names.now)
-        (body_of (2 ∷ 4 ∷ 2 ∷ 1 ∷ []) (names.now.a ∷ names.now.b ∷ []) (NonceValue ra ∷ NonceValue known.now.rb ∷ []) x2.now)
+        (covered_b names.now known.now ra x2.now)
         (at items.now 4) ≡ true }
-    ensures fit { IfOk result (λ v. Leads S.opens S.checks delivery.now.ring.now delivery.now.hook.now.rules.items
-        (run_b names.now (AskedB known.now)) delivery.now.term.now
-        (run_b names.now (HeardB (record { asked = known.now; second = v }))) (opened_by delivery.now.ring.now names.now (at items.now 4)
-        (body_of (2 ∷ 4 ∷ 2 ∷ 1 ∷ []) (names.now.a ∷ names.now.b ∷ []) (NonceValue ra ∷ NonceValue known.now.rb ∷ []) x2.now)) []) }
-    ensures refused { IfErr result (λ e. e ≢ Memory →
-        Refuses S.opens S.checks delivery.now.ring.now delivery.now.hook.now.rules.items
-        (run_b names.now (AskedB known.now)) delivery.now.term.now e) }
+    ensures fit { IfOk result (λ v. Leads S.opens S.checks delivery.now
+        (run_b names.now (AskedB known.now))
+        (run_b names.now (HeardB (record { asked = known.now; second = v })))
+        (opened_by delivery.now.ring.now names.now (at items.now 4) (covered_b names.now known.now ra x2.now))
+        []) }
+    ensures refused { IfErr result
+        (Refuses S.opens S.checks delivery.now (run_b names.now (AskedB known.now))) }
 {
     let x2 = (Slot::X2, x2);
     let x3 = (Slot::X3, x3);
@@ -397,13 +393,12 @@ fn read_second<S: Sealer>(
     names: &Pair,
     known: &Challenging,
 ) -> Result<(SecondHeard, Vec<Opening>), Refusal>
-    requires parts { has_parts delivery.now.ring.now (run_b names.now (AskedB known.now)).head ≡ true }
-    ensures fit { IfOk result (λ p. Leads S.opens S.checks delivery.now.ring.now delivery.now.hook.now.rules.items
-        (run_b names.now (AskedB known.now)) delivery.now.term.now
-        (run_b names.now (HeardB p.0)) p.1.items []) }
-    ensures refused { IfErr result (λ e. e ≢ Memory →
-        Refuses S.opens S.checks delivery.now.ring.now delivery.now.hook.now.rules.items
-        (run_b names.now (AskedB known.now)) delivery.now.term.now e) }
+    requires parts { has_parts delivery.now.ring.now
+        (run_b names.now (AskedB known.now)).head ≡ true }
+    ensures fit { IfOk result (λ p. Leads S.opens S.checks delivery.now
+        (run_b names.now (AskedB known.now)) (run_b names.now (HeardB p.0)) p.1.items []) }
+    ensures refused { IfErr result
+        (Refuses S.opens S.checks delivery.now (run_b names.now (AskedB known.now))) }
 {
     let alloc = delivery.alloc;
     let items = read_message(
