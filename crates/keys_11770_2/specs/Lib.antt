@@ -1,0 +1,10 @@
+pub mod KShown
+pub mod K3A
+pub mod K3B
+pub mod K4A
+pub mod K4B
+pub mod K5A
+pub mod K5B
+pub mod K6A
+pub mod K6B
+pub mod KStates
