@@ -20,3 +20,4 @@ pub mod Suited
 pub mod Keyed
 pub mod OneKey
 pub mod Dues
+pub mod Running

@@ -5,9 +5,10 @@ use Rattle.replay_store.specs.Stamps.{Accepted, stamp_verdict, last_number}
 use Rattle.replay_store.specs.declared.verdict.Verdict.{Verdict}
 use Rattle.replay_store.specs.declared.verdict.Verdict.TheVariants as verdicts
 use Rattle.mech_rows.specs.declared.refusal.Refusal.{Refusal}
-use Rattle.mech_rows.specs.declared.refusal.Refusal.TheVariants.{UnknownRun, EndedRun, StampsSpent, Moved, WrongStampKind, Early, Late, Repeated, StoreFull}
+use Rattle.mech_rows.specs.declared.refusal.Refusal.TheVariants.{UnknownRun, EndedRun, WrongPass, StampsSpent, Moved, WrongStampKind, Early, Late, Repeated, StoreFull}
 use Rattle.mech_rows.specs.Runs.{Got}
 use Rattle.mech_rows.specs.Moves.{Move}
+use Rattle.mech_rows.specs.Replies.{sends_first}
 use Rattle.agreement_laws.specs.Nodes.{Node}
 use Rattle.node_desk.specs.Helds.{Held}
 use Rattle.node_desk.specs.Openings.{first_of}
@@ -16,6 +17,11 @@ use Rattle.node_desk.specs.Openings.{first_of}
 abbrev pub run_refusal : Option Held → Option Refusal
 run_refusal None = Some UnknownRun
 run_refusal (Some h) = if h.is_open then None else Some EndedRun
+
+-- why a run does not say its first message now: it is not open, or says another message or none
+abbrev pub first_refusal : Option Held → Option Refusal
+first_refusal None = Some UnknownRun
+first_refusal (Some h) = first_of (run_refusal (Some h)) (if sends_first h.state then None else Some WrongPass)
 
 -- the refusal for a verdict on a received stamp
 abbrev pub refusal_of : Got → Verdict → Option Refusal

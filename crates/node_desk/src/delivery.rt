@@ -5,7 +5,8 @@ ghost use Rattle.mech_rows.specs.declared.refusal.Refusal.TheVariants.{Memory, D
 ghost use Rattle.text_hooks.specs.Rules.{allowed};
 ghost use Rattle.node_desk.specs.declared.event.Event.TheVariants.{Commit};
 ghost use Rattle.node_desk.specs.Events.{log_of};
-ghost use Rattle.node_desk.specs.Desks.{node_at, Entered, Untouched, CommitAnswers, IsMadeWith, IsUnused};
+ghost use Rattle.node_desk.specs.Refusals.{first_refusal, run_refusal};
+ghost use Rattle.node_desk.specs.Desks.{node_at, run_at, Entered, Untouched, CommitAnswers, IsMadeWith, IsUnused};
 ghost use Rattle.node_desk.specs.Deliveries.{MayHaveIssued, HasIssued, HasIssuedFirst, IssuedAtMost, IssuedAtMostFirst, IsRefused, IsFirstRefused, IsStampRefused, HasMovedDraws, HasMovedDrawsFirst, Delivered, Started, is_of_stamp};
 
 use crate::commit::given_up;
@@ -75,18 +76,20 @@ fn enter<T: Store>(
     }
 }
 
-/// Gives bytes to an open run as its next message: judges them, issues a stamp where the run needs one for its reply, makes
-/// the reply and enters the step, all at the greater of now and the clock, in milliseconds. Answers the reply, where there
-/// is one.
+/// Gives bytes to an open run as its next message: judges them, issues a stamp where the run needs
+/// one for its reply, makes the reply and enters the step, all at the greater of now and the clock,
+/// in milliseconds. Answers the reply, where there is one.
 ///
 /// # Errors
 ///
-/// The first that holds: `UnknownRun`, `EndedRun`, `Malformed`, `WrongPass`; of each part of the message `Unopened`,
-/// `WrongShape`, `WrongNames`, `WrongValue`; `TextRefused`; `StampsSpent`; then the desk and the draws are as they were.
-/// `DrawFault`, only where the count of faults rose in this call; of each received stamp `WrongStampKind`, `Early`, `Late`,
-/// `Repeated`, `StoreFull`; then the desk has issued a stamp where one is needed. Want of memory may come at any place before
-/// the step is entered, and the count stays then; the desk has issued at most its next stamp, and only where the bytes fit and
-/// one is needed. The draws that were taken are not given back.
+/// The first that holds: `UnknownRun`, `EndedRun`, `Malformed`, `WrongPass`; of each part of the
+/// message `Unopened`, `WrongShape`, `WrongNames`, `WrongValue`; `TextRefused`; `StampsSpent`; then
+/// the desk and the draws are as they were. `DrawFault`, only where the count of faults rose in
+/// this call; of each received stamp `WrongStampKind`, `Early`, `Late`, `Repeated`, `StoreFull`;
+/// then the desk has issued a stamp where one is needed. Want of memory may come at any place
+/// before the step is entered, and the count stays then; the desk has issued at most its next
+/// stamp, and only where the bytes fit and one is needed. The draws that were taken are not given
+/// back.
 pub fn deliver<T: Store, S: Sealer, D: Draws>(
     alloc: Global,
     desk: &mut Desk<T>,
@@ -110,21 +113,24 @@ pub fn deliver<T: Store, S: Sealer, D: Draws>(
     ensures memory { IfErr result (λ e. e ≡ Memory → D.fault_count draws.new ≡ D.fault_count draws.old) }
     ensures unfailed { IfErr result (λ e. is_of_stamp e ≡ true → D.fault_count draws.new ≡ D.fault_count draws.old) }
     ensures issue_due { OnErr result (IssuedAtMost S.opens S.checks (allowed hook.now.rules.items) desk.old desk.new run bytes.now clock) }
+    ensures running { IfErr result (λ e. e ≡ Memory → run_refusal (run_at desk.old run) ≡ None) }
 {
     let step = make_step(alloc, desk, sealer, hook, draws, run, bytes, clock)?;
     enter(alloc, desk, run, step, clock)
 }
 
-/// Lets an open run say its first message: issues a stamp where the run needs one, makes the message and enters the step, all at
-/// the greater of now and the clock, in milliseconds. Answers the message.
+/// Lets an open run say its first message: issues a stamp where the run needs one, makes the
+/// message and enters the step, all at the greater of now and the clock, in milliseconds. Answers
+/// the message.
 ///
 /// # Errors
 ///
-/// The first that holds: `UnknownRun`, `EndedRun`, `WrongPass` where the run doesn't say the first message now, `StampsSpent`;
-/// then the desk and the draws are as they were. `DrawFault`, only where the count of faults rose in this call; then the desk
-/// has issued a stamp where one is needed. Want of memory may come at any place before the step is entered, and the count stays
-/// then; the desk has issued at most its next stamp, and only where the run says the first message now and one is needed. The
-/// draws that were taken are not given back.
+/// The first that holds: `UnknownRun`, `EndedRun`, `WrongPass` where the run doesn't say the first
+/// message now, `StampsSpent`; then the desk and the draws are as they were. `DrawFault`, only
+/// where the count of faults rose in this call; then the desk has issued a stamp where one is
+/// needed. Want of memory may come at any place before the step is entered, and the count stays
+/// then; the desk has issued at most its next stamp, and only where the run says the first message
+/// now and one is needed. The draws that were taken are not given back.
 pub fn start<T: Store, S: Sealer, D: Draws>(
     alloc: Global,
     desk: &mut Desk<T>,
@@ -144,6 +150,8 @@ pub fn start<T: Store, S: Sealer, D: Draws>(
     ensures quiet { OnOk result (D.fault_count draws.new ≡ D.fault_count draws.old) }
     ensures memory { IfErr result (λ e. e ≡ Memory → D.fault_count draws.new ≡ D.fault_count draws.old) }
     ensures issue_due { OnErr result (IssuedAtMostFirst desk.old desk.new run clock) }
+    ensures running { IfErr result (λ e. e ≡ Memory → run_refusal (run_at desk.old run) ≡ None) }
+    ensures first { IfErr result (λ e. e ≡ Memory → first_refusal (run_at desk.old run) ≡ None) }
 {
     let step = make_first(alloc, desk, sealer, draws, run, clock)?;
     let Some(message) = enter(alloc, desk, run, step, clock)? else {

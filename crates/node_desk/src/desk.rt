@@ -17,7 +17,7 @@ use crate::log::Log;
 use crate::openings::{copied, opening_refusal};
 use crate::run_slot::RunSlot;
 use crate::suiting::{has_keys, is_unused, issued_by};
-use crate::table::{find, look_up};
+use crate::table::{check_first, find, look_up};
 use fresh_values::Issuer;
 use mech_rows::{Refusal, Ring, RunHead, Step, Texts};
 use replay_store::Store;
@@ -26,11 +26,12 @@ use std::marker::Model;
 use term_values::{OutOfMemory, Stamp};
 use text_hooks::RoleState;
 
-/// One node: its ring, its issuer, the stamps that it accepted, its runs and its log. The type keeps that the log is legal:
-/// over each sealing over which its commits are of steps with the ring's keys, each event has what it needs.
+/// One node: its ring, its issuer, the stamps that it accepted, its runs and its log. The type
+/// keeps that the log is legal: over each sealing over which its commits are of steps with the
+/// ring's keys, each event has what it needs.
 ///
-/// Contracts see the ring, the number that the issuer had issued last at first, the log, and for how many commits there is
-/// room. What the node is follows from these.
+/// Contracts see the ring, the number that the issuer had issued last at first, the log, and for
+/// how many commits there is room. What the node is follows from these.
 #[derive(Drop)]
 pub struct Desk<T: Store> {
     alloc: Global,
@@ -68,11 +69,12 @@ impl<T: Store> Desk<T> {
     ghost use Rattle.node_desk.specs.Events.{log_of};
     ghost use Rattle.node_desk.specs.Helds.{Held};
     ghost use Rattle.node_desk.specs.Openings.{opening_refusal as opening_refused};
-    ghost use Rattle.node_desk.specs.Refusals.{issue_refusal, run_refusal};
+    ghost use Rattle.node_desk.specs.Refusals.{first_refusal, issue_refusal, run_refusal};
     ghost use Rattle.node_desk.specs.Desks.{node_at, run_at, Entered, HasStepped, Untouched, CommitAnswers, IsLegalLog, IsWholeLog, IsMadeWith, AreMadeWith, IsUnused, due_stamp};
 
-    /// A node that did nothing yet: no runs, an empty log. The issuer is of the ring's kind of stamps; the store has the
-    /// ring's window, its now is 0, and it has accepted nothing. Takes no memory.
+    /// A node that did nothing yet: no runs, an empty log. The issuer is of the ring's kind of
+    /// stamps; the store has the ring's window, its now is 0, and it has accepted nothing. Takes no
+    /// memory.
     pub fn new(alloc: Global, ring: Ring, issuer: Issuer, store: T) -> Desk<T>
         requires kind { issuer.kind ≡ ring.kind }
         requires window { T.window store ≡ ring.window }
@@ -101,8 +103,8 @@ impl<T: Store> Desk<T> {
         &self.ring
     }
 
-    /// What happened at the node: a legal log, each of whose commits is of a step that was made with the ring's keys. Takes no
-    /// memory.
+    /// What happened at the node: a legal log, each of whose commits is of a step that was made
+    /// with the ring's keys. Takes no memory.
     pub fn log(&self) -> &Log
         ensures log { result.now.events ≡ self.now.log }
         ensures legal { IsLegalLog self.now.ring self.now.first self.now.log }
@@ -116,7 +118,8 @@ impl<T: Store> Desk<T> {
     ///
     /// # Errors
     ///
-    /// `UnknownRun` and `EndedRun`, each exactly where it holds; want of memory, only where the run is open.
+    /// `UnknownRun` and `EndedRun`, each exactly where it holds; want of memory, only where the run
+    /// is open.
     pub fn look(&self, run: u32) -> Result<Live, Refusal>
         ensures state { IfOk result (λ state. run_at self.now run ≡ Some (record { state = live_state state; is_open = true })) }
         ensures parts { IfOk result (λ state. has_parts self.now.ring (live_state state).head ≡ true) }
@@ -127,13 +130,41 @@ impl<T: Store> Desk<T> {
         Ok(state)
     }
 
-    /// Opens a run of the node's own name and answers its number, which is one more than the runs that were opened. Takes the room of
-    /// two commits at most.
+    /// Judges whether a run says its first message now. Takes no memory.
     ///
     /// # Errors
     ///
-    /// The first that holds of `UnknownParty`, `WrongKind`, `SelfPeer`, `NoKey` and `TableFull`; want of memory, only where none of
-    /// them holds. Nothing but the room may have changed then, and that only grows.
+    /// The first that holds: `UnknownRun`, `EndedRun`, `WrongPass`.
+    pub(crate) fn check_first(&self, run: u32) -> Result<(), Refusal>
+        ensures fit { OnOk result (first_refusal (run_at self.now run) ≡ None) }
+        ensures refused { IfErr result (λ e. first_refusal (run_at self.now run) ≡ Some e) }
+        ensures memory { IfErr result (λ e. e ≢ Memory) }
+    {
+        check_first(&self.run_slots, self.log.list(), run)
+    }
+
+    /// Why a run of that head would not be opened: the first refusal that holds, which is never
+    /// want of memory. Takes no memory.
+    pub fn opening_refusal(&self, head: &RunHead) -> Option<Refusal>
+        ensures refusal { result ≡ opening_refused (node_at self.now) head.now }
+        ensures memory { result ≢ Some Memory }
+    {
+        opening_refusal(
+            &self.ring,
+            self.running,
+            self.run_slots.as_slice().len(),
+            head,
+        )
+    }
+
+    /// Opens a run of the node's own name and answers its number, which is one more than the runs
+    /// that were opened. Takes the room of two commits at most.
+    ///
+    /// # Errors
+    ///
+    /// The first that holds of `UnknownParty`, `WrongKind`, `SelfPeer`, `NoKey` and `TableFull`;
+    /// want of memory, only where none of them holds. Nothing but the room may have changed then,
+    /// and that only grows.
     pub fn open_run(&mut self, head: &RunHead, texts: &Texts) -> Result<u32, Refusal>
         requires own { me head.now ≡ self.old.ring.me }
         requires plays { plays_live head.now ≡ true }
@@ -170,13 +201,13 @@ impl<T: Store> Desk<T> {
         Ok(run)
     }
 
-    /// Issues the node's next stamp at the greater of now and the clock, in milliseconds, which is then the node's now. Takes the
-    /// room of one commit at most.
+    /// Issues the node's next stamp at the greater of now and the clock, in milliseconds, which is
+    /// then the node's now. Takes the room of one commit at most.
     ///
     /// # Errors
     ///
-    /// `StampsSpent` exactly where the last number was the greatest; want of memory, only where it wasn't. Nothing but the room may
-    /// have changed then, now neither.
+    /// `StampsSpent` exactly where the last number was the greatest; want of memory, only where it
+    /// wasn't. Nothing but the room may have changed then, now neither, and the room only grows.
     pub fn issue(&mut self, clock: u64) -> Result<Stamp, Refusal>
         ensures ok { IfOk result (λ stamp. Entered self.old self.new (Issue (max (node_at self.old).now clock) stamp)) }
         ensures unused { IfOk result (λ stamp. IsUnused (Some stamp) (log_of self.new.log)) }
@@ -184,6 +215,7 @@ impl<T: Store> Desk<T> {
         ensures refused { IfErr result (λ e. e ≢ Memory → issue_refusal (node_at self.old) ≡ Some e) }
         ensures spent { IfErr result (λ e. e ≡ Memory → issue_refusal (node_at self.old) ≡ None) }
         ensures err { OnErr result (Untouched self.old self.new) }
+        ensures grows { OnErr result (self.old.spare ≤ self.new.spare) }
         ensures stamp { IfOk result (λ stamp. due_stamp (node_at self.old) clock ≡ Some stamp) }
         ensures steps { IfOk result (λ stamp. HasStepped self.old self.new (Issue (max (node_at self.old).now clock) stamp)) }
         ensures moment { OnOk result ((node_at self.new).now ≡ max (node_at self.old).now clock) }
@@ -205,7 +237,8 @@ impl<T: Store> Desk<T> {
     ///
     /// # Errors
     ///
-    /// Want of memory alone. Nothing but the room may have changed then; it is never less than before.
+    /// Want of memory alone. Nothing but the room may have changed then; it is never less than
+    /// before.
     pub fn ready(&mut self) -> Result<(), OutOfMemory>
         ensures room { OnOk result (0 < self.new.spare) }
         ensures grows { self.old.spare ≤ self.new.spare }
@@ -231,25 +264,27 @@ impl<T: Store> Desk<T> {
         Ok(())
     }
 
-    /// Whether a step suits the node: it was made with the ring's keys, and the stamp that it issued, where there is one, was
-    /// issued by this node and used by no commit. Takes no memory.
+    /// Whether a step suits the node: it was made with the ring's keys, and the stamp that it
+    /// issued, where there is one, was issued by this node and used by no commit. Takes no memory.
     pub fn suits(&self, step: &Step<Live>) -> bool
         ensures suits { IsTrue result ↔ (IsMadeWith (keys_in self.now.ring) step.now × IsUnused step.now.issued (log_of self.now.log)) }
     {
         has_keys(&self.ring, step) && is_unused(self.log.list(), issued_by(step))
     }
 
-    /// Enters a step of an open run. Each received stamp is judged at the greater of now and the clock, in milliseconds; where
-    /// all are fit, that is the node's now, the stamps are accepted, the run stands after the step, and is over where the
-    /// step is its last one.
+    /// Enters a step of an open run. Each received stamp is judged at the greater of now and the
+    /// clock, in milliseconds; where all are fit, that is the node's now, the stamps are accepted,
+    /// the run stands after the step, and is over where the step is its last one.
     ///
-    /// There is room, which `ready` makes; the step was made with the ring's keys, and a stamp that it issued was issued by
-    /// this node and used by no commit before, which `suits` tests. Takes no memory, and the room of one commit at most.
+    /// There is room, which `ready` makes; the step was made with the ring's keys, and a stamp that
+    /// it issued was issued by this node and used by no commit before, which `suits` tests. Takes
+    /// no memory, and the room of one commit at most.
     ///
     /// # Errors
     ///
-    /// The first that holds: `UnknownRun`, `EndedRun`, `Moved`, then of each received stamp in order `WrongStampKind`,
-    /// `Early`, `Late`, `Repeated` or `StoreFull`. Nothing has changed then, now neither.
+    /// The first that holds: `UnknownRun`, `EndedRun`, `Moved`, then of each received stamp in
+    /// order `WrongStampKind`, `Early`, `Late`, `Repeated` or `StoreFull`. Nothing has changed
+    /// then, now neither.
     pub fn commit(&mut self, run: u32, step: Step<Live>, clock: u64) -> Result<(), Refusal>
         requires room { 0 < self.old.spare }
         requires made { IsMadeWith (keys_in self.old.ring) step }
@@ -279,7 +314,8 @@ impl<T: Store> Desk<T> {
         Ok(())
     }
 
-    /// Ends an open run; false exactly where it isn't open, and then nothing has changed. Takes no memory and no room of a commit.
+    /// Ends an open run; false exactly where it isn't open, and then nothing has changed. Takes no
+    /// memory and no room of a commit.
     pub fn drop_run(&mut self, run: u32) -> bool
         ensures dropped { OnTrue result (Entered self.old self.new (Drop run)) }
         ensures kept { OnFalse result (self.new ≡ self.old) }

@@ -26,8 +26,8 @@ pub enum Event {
     Drop {
         run: u32,
     },
-    /// The node lost its open runs and its memory. The issuer goes on from the last number, and these further stamps count as
-    /// accepted; what their slot is says nothing.
+    /// The node lost its open runs and its memory. The issuer goes on from the last number, and
+    /// these further stamps count as accepted; what their slot is says nothing.
     Restart {
         now: u64,
         last: u64,

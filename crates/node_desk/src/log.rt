@@ -5,7 +5,8 @@ use std::alloc::Global;
 use std::marker::Model;
 use term_values::OutOfMemory;
 
-/// The events of a node, the oldest first. Contracts see the list, and how many more need no memory.
+/// The events of a node, the oldest first. Contracts see the list, and how many more need no
+/// memory.
 #[derive(Drop)]
 pub struct Log {
     events: Vec<Event>,

@@ -8,14 +8,13 @@ ghost use Rattle.mech_rows.specs.Openings.{has_parts};
 ghost use Rattle.mech_rows.specs.Replies.{made_in, needs_stamp, new_slots, next_pass, run_verdict, sends_first};
 ghost use Rattle.mech_rows.specs.Rings.{keys_in};
 ghost use Rattle.mech_rows.specs.Steps.{IsStep};
-ghost use Rattle.mech_rows.specs.Verdict.{State};
 ghost use Rattle.mech_rows.specs.declared.refusal.Refusal.TheVariants.{Memory, WrongPass, DrawFault};
 ghost use Rattle.text_hooks.specs.Drawn.{DrawsAre, MovedOn};
 ghost use Rattle.text_hooks.specs.Refused.{IsNoSpelling};
 ghost use Rattle.text_hooks.specs.Rules.{allowed};
 ghost use Rattle.node_desk.specs.Events.{log_of};
 ghost use Rattle.node_desk.specs.Lives.{live_state};
-ghost use Rattle.node_desk.specs.Refusals.{run_refusal};
+ghost use Rattle.node_desk.specs.Refusals.{first_refusal, run_refusal};
 ghost use Rattle.node_desk.specs.Desks.{run_at, Untouched, IsUnused};
 ghost use Rattle.node_desk.specs.Deliveries.{open_in, IssuedIs, MayHaveIssued, HasIssued, HasIssuedFirst, IsDue, IssuedAtMost, IssuedAtMostFirst, IsUnfit, IsTurnedAway, IsUnmade, IsFirstRefused, HasMovedDraws, HasMovedDrawsFirst, MadeFor, FirstFor, most_drawn, spent_refusal};
 
@@ -79,6 +78,7 @@ fn prepared_for<T: Store, S: Sealer>(
     ensures fit { IfOk result (λ p. run_verdict S.opens S.checks (allowed hook.now.rules.items) (keys_in desk.now.ring) p.before p.taken ≡ Ok (record { notes = p.after.notes; opened = p.opened; got = p.got })) }
     ensures fitted { IfOk result (Fitted S.opens S.checks (keys_in desk.now.ring)) }
     ensures refused { IfErr result (λ e. e ≢ Memory → IsTurnedAway S.opens S.checks (allowed hook.now.rules.items) desk.now run bytes.now e) }
+    ensures running { IfErr result (λ e. e ≡ Memory → run_refusal (run_at desk.now run) ≡ None) }
 {
     let state = desk.look(run)?;
     prepared_by(alloc, state, sealer, desk.ring(), hook, bytes)
@@ -122,16 +122,18 @@ fn stamp_after<T: Store>(
     stamp_for(desk, &prepared.after, clock)
 }
 
-/// Makes the step by which an open run takes bytes as its next message: judges them, issues a stamp where the run needs one
-/// for its reply, and makes the reply. The stamp is issued at the greater of now and the clock, in milliseconds. The desk may
-/// commit the step then, which judges the received stamps.
+/// Makes the step by which an open run takes bytes as its next message: judges them, issues a stamp
+/// where the run needs one for its reply, and makes the reply. The stamp is issued at the greater
+/// of now and the clock, in milliseconds. The desk may commit the step then, which judges the
+/// received stamps.
 ///
 /// # Errors
 ///
-/// The first that holds: `UnknownRun`, `EndedRun`, `Malformed`, `WrongPass`; of each part of the message `Unopened`,
-/// `WrongShape`, `WrongNames`, `WrongValue`; `TextRefused`; `StampsSpent`; then the desk and the draws are as they were.
-/// `DrawFault`, only where the count of faults rose in this call; then the desk has issued a stamp where one is needed. Want
-/// of memory may come at any place, and the count stays then; the desk has issued at most its next stamp, and only where the
+/// The first that holds: `UnknownRun`, `EndedRun`, `Malformed`, `WrongPass`; of each part of the
+/// message `Unopened`, `WrongShape`, `WrongNames`, `WrongValue`; `TextRefused`; `StampsSpent`; then
+/// the desk and the draws are as they were. `DrawFault`, only where the count of faults rose in
+/// this call; then the desk has issued a stamp where one is needed. Want of memory may come at any
+/// place, and the count stays then; the desk has issued at most its next stamp, and only where the
 /// bytes fit and one is needed. The draws that were taken are not given back.
 pub fn make_step<T: Store, S: Sealer, D: Draws>(
     alloc: Global,
@@ -155,6 +157,7 @@ pub fn make_step<T: Store, S: Sealer, D: Draws>(
     ensures memory { IfErr result (λ e. e ≡ Memory → D.fault_count draws.new ≡ D.fault_count draws.old) }
     ensures due { IfOk result (λ step. IsDue desk.old clock step.issued) }
     ensures issue_due { OnErr result (IssuedAtMost S.opens S.checks (allowed hook.now.rules.items) desk.old desk.new run bytes.now clock) }
+    ensures running { IfErr result (λ e. e ≡ Memory → run_refusal (run_at desk.old run) ≡ None) }
 {
     let prepared = prepared_for(alloc, desk, sealer, hook, run, bytes)?;
     let stamp = match stamp_after(desk, &prepared, clock) {
@@ -170,13 +173,11 @@ fn starting<T: Store>(desk: &Desk<T>, run: u32) -> Result<Live, Refusal>
     ensures current { IfOk result (λ state. run_at desk.now run ≡ open_in (live_state state)) }
     ensures parts { IfOk result (λ state. has_parts desk.now.ring (live_state state).head ≡ true) }
     ensures first { IfOk result (λ state. sends_first (live_state state) ≡ true) }
-    ensures refused { IfErr result (λ e. e ≢ Memory → (run_refusal (run_at desk.now run) ≡ Some e) ⊎ ((s : State) × (run_at desk.now run ≡ open_in s) × (sends_first s ≡ false) × (e ≡ WrongPass))) }
+    ensures refused { IfErr result (λ e. e ≢ Memory → first_refusal (run_at desk.now run) ≡ Some e) }
+    ensures memory { IfErr result (λ e. e ≡ Memory → first_refusal (run_at desk.now run) ≡ None) }
 {
-    let state = desk.look(run)?;
-    if !state.sends_first() {
-        return Err(given_up(state, Refusal::WrongPass));
-    }
-    Ok(state)
+    desk.check_first(run)?;
+    desk.look(run)
 }
 
 /// The step that says the first message of a state's run.
@@ -208,16 +209,18 @@ fn first_by<P: RoleState, S: Sealer, D: Draws>(
     Ok(step)
 }
 
-/// Makes the step by which an open run says its first message: issues a stamp where the run needs one, at the greater of now and
-/// the clock, in milliseconds, and makes the message. The desk may commit the step then.
+/// Makes the step by which an open run says its first message: issues a stamp where the run needs
+/// one, at the greater of now and the clock, in milliseconds, and makes the message. The desk may
+/// commit the step then.
 ///
 /// # Errors
 ///
-/// The first that holds: `UnknownRun`, `EndedRun`, `WrongPass` where the run doesn't say the first message now, `StampsSpent`;
-/// then the desk and the draws are as they were. `DrawFault`, only where the count of faults rose in this call; then the desk
-/// has issued a stamp where one is needed. Want of memory may come at any place, and the count stays then; the desk has issued at
-/// most its next stamp, and only where the run says the first message now and one is needed. The draws that were taken are not
-/// given back.
+/// The first that holds: `UnknownRun`, `EndedRun`, `WrongPass` where the run doesn't say the first
+/// message now, `StampsSpent`; then the desk and the draws are as they were. `DrawFault`, only
+/// where the count of faults rose in this call; then the desk has issued a stamp where one is
+/// needed. Want of memory may come at any place, and the count stays then; the desk has issued at
+/// most its next stamp, and only where the run says the first message now and one is needed. The
+/// draws that were taken are not given back.
 pub fn make_first<T: Store, S: Sealer, D: Draws>(
     alloc: Global,
     desk: &mut Desk<T>,
@@ -238,6 +241,8 @@ pub fn make_first<T: Store, S: Sealer, D: Draws>(
     ensures memory { IfErr result (λ e. e ≡ Memory → D.fault_count draws.new ≡ D.fault_count draws.old) }
     ensures due { IfOk result (λ step. IsDue desk.old clock step.issued) }
     ensures issue_due { OnErr result (IssuedAtMostFirst desk.old desk.new run clock) }
+    ensures running { IfErr result (λ e. e ≡ Memory → run_refusal (run_at desk.old run) ≡ None) }
+    ensures first { IfErr result (λ e. e ≡ Memory → first_refusal (run_at desk.old run) ≡ None) }
 {
     let state = starting(desk, run)?;
     let stamp = match stamp_for(desk, &state, clock) {

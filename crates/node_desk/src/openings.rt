@@ -123,7 +123,8 @@ pub(crate) fn copied(head: &RunHead) -> RunHead
     *head
 }
 
-/// Why no run of this head is opened, where so many runs are open and so many were opened; the first refusal that holds.
+/// Why no run of this head is opened, where so many runs are open and so many were opened; the
+/// first refusal that holds.
 pub(crate) fn opening_refusal(
     ring: &Ring,
     running: usize,

@@ -16,7 +16,8 @@ use mech_rows::{Opening, Ring, Step};
 use term_values::{Key, Part, Stamp};
 use text_hooks::RoleState;
 
-/// Whether the key is this part alone; where there is none, whether it is of no bytes, as no key is.
+/// Whether the key is this part alone; where there is none, whether it is of no bytes, as no key
+/// is.
 fn is_key(key: &Key, part: Option<&Part>) -> bool
     ensures { IsTrue result ↔ (key.now ≡ One (bytes_or_empty (option_copied part.entry))) }
 {
@@ -41,8 +42,8 @@ fn are_under(part: Option<&Part>, items: &[Opening]) -> bool
     true
 }
 
-/// Whether the step was made with the ring's keys. The mechanisms whose states there are have one long-term key, that of A and B,
-/// and no other.
+/// Whether the step was made with the ring's keys. The mechanisms whose states there are have one
+/// long-term key, that of A and B, and no other.
 pub(crate) fn has_keys(ring: &Ring, step: &Step<Live>) -> bool
     ensures { IsTrue result ↔ IsMadeWith (keys_in ring.now) step.now }
 {

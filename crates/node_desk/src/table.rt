@@ -3,7 +3,7 @@ ghost use Rattle.mech_rows.specs.declared.refusal.Refusal.{Refusal as RefusalOf}
 ghost use Rattle.mech_rows.specs.declared.refusal.Refusal.TheVariants.{Memory, Moved};
 ghost use Rattle.node_desk.specs.Helds.{table_at};
 ghost use Rattle.node_desk.specs.Lives.{live_state};
-ghost use Rattle.node_desk.specs.Refusals.{CommitAnswer, IsCurrent, run_refusal};
+ghost use Rattle.node_desk.specs.Refusals.{CommitAnswer, IsCurrent, first_refusal, run_refusal};
 
 use crate::event::Event;
 use crate::live::Live;
@@ -66,6 +66,29 @@ pub(crate) fn find_current(
     Ok(place)
 }
 
+/// The state of an open run.
+fn current<'a>(run_slots: &'a [RunSlot], log: &'a [Event], run: u32) -> Result<&'a Live, Refusal>
+    ensures state { IfOk result (λ state. table_at log.now run_slots.now run ≡ Some (record { state = live_state state.now; is_open = true })) }
+    ensures refused { IfErr result (λ e. run_refusal (table_at log.now run_slots.now run) ≡ Some e) }
+    ensures memory { IfErr result (λ e. e ≢ Memory) }
+{
+    let place = find(run_slots, log, run)?;
+    Ok(latest(&run_slots[place], log))
+}
+
+/// Judges whether a run says its first message now.
+pub(crate) fn check_first(run_slots: &[RunSlot], log: &[Event], run: u32) -> Result<(), Refusal>
+    ensures fit { OnOk result (first_refusal (table_at log.now run_slots.now run) ≡ None) }
+    ensures refused { IfErr result (λ e. first_refusal (table_at log.now run_slots.now run) ≡ Some e) }
+    ensures memory { IfErr result (λ e. e ≢ Memory) }
+{
+    let state = current(run_slots, log, run)?;
+    if !state.sends_first() {
+        return Err(Refusal::WrongPass);
+    }
+    Ok(())
+}
+
 /// A copy of the state of an open run.
 pub(crate) fn look_up(
     alloc: Global,
@@ -77,7 +100,6 @@ pub(crate) fn look_up(
     ensures refused { IfErr result (λ e. e ≢ Memory → run_refusal (table_at log.now run_slots.now run) ≡ Some e) }
     ensures memory { IfErr result (λ e. e ≡ Memory → run_refusal (table_at log.now run_slots.now run) ≡ None) }
 {
-    let place = find(run_slots, log, run)?;
-    let state = latest(&run_slots[place], log);
+    let state = current(run_slots, log, run)?;
     Ok(state.copy(alloc)?)
 }

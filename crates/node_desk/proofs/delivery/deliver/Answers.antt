@@ -1,9 +1,11 @@
 use Rattle.std.proofs.Common.{sym, ◌∙◌, inl}
 use Rattle.std.proofs.lemmas.Result.{err_from_is_err_and}
 use Rattle.text_hooks.specs.Rules.{allowed}
-use Rattle.node_desk.proofs.Causes.{stamp-other, unmade-stamp}
+use Rattle.node_desk.proofs.Causes.{err-all, stamp-other, unmade-stamp}
 use Rattle.node_desk.proofs.Delivering.{err-then, errs-then, ok-then, on-err-then, issued-same, made-late, made-refused, made-judged, delivered}
 use Rattle.node_desk.proofs.Dues.{due-made}
+use Rattle.node_desk.proofs.Running.{open-unrefused}
+use Rattle.node_desk.specs.Desks.{run_at}
 use Rattle.node_desk.proofs.delivery.deliver.Goals as goal
 
 pub returns-in_err-step-clause-refused : goal.returns-in_err-step-clause-refused
@@ -48,3 +50,7 @@ returns-clause-judged g c =
 pub returns-clause-issue_due : goal.returns-clause-issue_due
 returns-clause-issue_due g c =
     on-err-then c.enter.result c.enter.ensures.err (λ same. due-made g.S.Sealer.opens g.S.Sealer.checks (allowed c.args.hook.now.rules.items) _ _ _ _ c.args.desk.now c.make_step.new.desk c.enter.new.desk c.args.run c.args.bytes.now c.args.clock c.in_ok-step.step c.in_ok-step.ensures.ok c.in_ok-step.ensures.due same)
+
+pub returns-clause-running : goal.returns-clause-running
+returns-clause-running g c =
+    err-all _ c.enter.result (λ e is. open-unrefused (run_at c.args.desk.now c.args.run) c.in_ok-step.step.before c.in_ok-step.ensures.ok.current)

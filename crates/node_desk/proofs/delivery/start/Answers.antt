@@ -1,9 +1,11 @@
 use Rattle.std.proofs.Common.{ℕ, sym, subst, ◌∙◌}
 use Rattle.std.proofs.lemmas.Result.{err_from_is_err_and}
 use Rattle.node_desk.specs.declared.event.Event.TheVariants.{Commit}
-use Rattle.node_desk.specs.Desks.{Entered}
+use Rattle.node_desk.specs.Desks.{run_at, Entered}
 use Rattle.node_desk.proofs.Delivering.{issued-same, issued-node}
 use Rattle.node_desk.proofs.Dues.{due-first-made}
+use Rattle.node_desk.proofs.Running.{first-unrefused, open-unrefused}
+use Rattle.node_desk.proofs.Causes.{err-all}
 use Rattle.node_desk.proofs.delivery.start.Goals as goal
 
 pub returns-in_err-message-clause-err : goal.returns-in_err-message-clause-err
@@ -27,3 +29,11 @@ returns-clause-ok g c =
       entered = subst (λ (n : ℕ). Entered c.make_first.new.desk c.enter.new.desk (Commit c.args.run n c.in_ok-step.step)) (issued-node _ _ _ _ made.issued).1 entered.ok;
       said = sym entered.reply ∙ c.in-Some.is;
     }
+
+pub returns-in_err-message-clause-running : goal.returns-in_err-message-clause-running
+returns-in_err-message-clause-running g c =
+    err-all _ c.from_residual-in_err-message.result (λ e is. open-unrefused (run_at c.args.desk.now c.args.run) c.in_ok-step.step.before c.in_ok-step.ensures.ok.current)
+
+pub returns-in_err-message-clause-first : goal.returns-in_err-message-clause-first
+returns-in_err-message-clause-first g c =
+    err-all _ c.from_residual-in_err-message.result (λ e is. first-unrefused (run_at c.args.desk.now c.args.run) c.in_ok-step.step.before c.in_ok-step.ensures.ok.current c.in_ok-step.ensures.ok.first)

@@ -2,9 +2,11 @@ use Rattle.std.proofs.Common.{sym, subst, ◌∙◌, inl, inr}
 use Rattle.std.proofs.lemmas.Result.{err_from_is_err_and}
 use Rattle.text_hooks.specs.Rules.{allowed}
 use Rattle.node_desk.specs.Deliveries.{IsDue}
-use Rattle.node_desk.proofs.Causes.{fault-other, late-fault, early, spent-early}
+use Rattle.node_desk.proofs.Causes.{err-all, fault-other, late-fault, early, spent-early}
 use Rattle.node_desk.proofs.Delivering.{issued-ring, unmade-late, made-for}
 use Rattle.node_desk.proofs.Dues.{due-late}
+use Rattle.node_desk.proofs.Running.{open-unrefused}
+use Rattle.node_desk.specs.Desks.{run_at}
 use Rattle.node_desk.proofs.making.make_step.Goals as goal
 
 pub returns-in_err-prepared-clause-refused : goal.returns-in_err-prepared-clause-refused
@@ -52,3 +54,11 @@ returns-in_err-step-clause-issue_due g c =
 
 pub returns-clause-due : goal.returns-clause-due
 returns-clause-due g c = subst (IsDue c.args.desk.now c.args.clock) (sym c.in_ok-step.ensures.issued) c.in-Ok.ensures.due
+
+pub returns-in-Err-clause-running : goal.returns-in-Err-clause-running
+returns-in-Err-clause-running g c is =
+    open-unrefused (run_at c.args.desk.now c.args.run) c.in_ok-prepared.prepared.before c.in_ok-prepared.ensures.current
+
+pub returns-in_err-step-clause-running : goal.returns-in_err-step-clause-running
+returns-in_err-step-clause-running g c =
+    err-all _ c.from_residual-in_err-step.result (λ e is. open-unrefused (run_at c.args.desk.now c.args.run) c.in_ok-prepared.prepared.before c.in_ok-prepared.ensures.current)
