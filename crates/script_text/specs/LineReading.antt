@@ -1,6 +1,6 @@
 -- Reading the words of a line, one after the other: a value, or none. Private calls alone cite this; what a line says stands in
 -- Lines.
-use Rattle.std.specs.Prelude.{◌≡◌, ℕ, ◌^◌, ◌==◌, not, ◌&&◌, List, [], ◌∷◌, ◌++◌, Bool, true, false, length, nat_lt, codes, Option, Some, None, is_some, Result, Ok, Err, if◌then◌else◌}
+use Rattle.std.specs.Prelude.{◌≡◌, ℕ, ◌^◌, ◌==◌, not, ◌&&◌, List, [], ◌∷◌, ◌++◌, Bool, true, false, IsTrue, length, nat_lt, codes, Option, Some, None, is_some, Result, Ok, Err, if◌then◌else◌}
 use Rattle.std.specs.Str.{bytes_eq}
 use Rattle.term_values.specs.declared.small.StampKind.TheVariants.{Time, Seq}
 use Rattle.mech_rows.specs.declared.kinds.Mech.{Mech}
@@ -15,7 +15,9 @@ use Rattle.script_text.specs.declared.line.Line.TheVariants as line
 use Rattle.script_text.specs.declared.reading.Malformed.{Malformed}
 use Rattle.script_text.specs.declared.reading.ReadFault.{ReadFault}
 use Rattle.script_text.specs.declared.reading.ReadFault.TheVariants as fault
+use Rattle.term_values.specs.Trees.{Tree}
 use Rattle.script_text.specs.Lines.{SlotTexts, sends_text}
+use Rattle.script_text.specs.Notation.{IsReading, Written, is_named, replaced}
 use Rattle.script_text.specs.Reading.{◌>>=◌, Read, byte_at, bytes_at, just, mark_at, number_at, upto}
 
 -- what a reader of words returned, seen by view, is what the words say, unless memory ran out
@@ -171,3 +173,17 @@ plain_words _ = None
 -- the words of a line with a term, whatever its run and its term are
 abbrev pub IsGiveWords : List (List ℕ) → List ℕ → List ℕ → Type 0
 IsGiveWords words run term = words ≡ codes "give" ∷ run ∷ term ∷ []
+
+-- the line gives the term that it writes to this run, and each `@` of it names what is there
+abbrev pub IsGiven : List Tree → List ℕ → List ℕ → Line → Type 0
+IsGiven sent run term l =
+    (n : ℕ) × (w : Written) × (number_in (2 ^ 32) run ≡ Some n) × IsReading sent term w × IsTrue (is_named sent w) × (l ≡ line.Give n (replaced sent w))
+
+-- the words are a run and a term, of which an `@` names nothing
+abbrev pub IsGivenUnnamed : List Tree → List ℕ → List ℕ → Type 0
+IsGivenUnnamed sent run term =
+    (n : ℕ) × (w : Written) × (number_in (2 ^ 32) run ≡ Some n) × IsReading sent term w × (is_named sent w ≡ false)
+
+-- the words are no run and no term
+abbrev pub IsNoneGiven : List Tree → List ℕ → List ℕ → Type 0
+IsNoneGiven sent run term = (n : ℕ) → number_in (2 ^ 32) run ≡ Some n → (w : Written) → IsReading sent term w → ⊥

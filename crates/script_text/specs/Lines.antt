@@ -1,5 +1,5 @@
 -- The lines of a script: the words of each, the limits of their values, and what each says.
-use Rattle.std.specs.Prelude.{◌≡◌, ◌<◌, ◌≤◌, ◌^◌, ◌==◌, ℕ, Bool, true, false, ◌&&◌, ◌||◌, List, [], ◌∷◌, ◌++◌, length, map, codes, None}
+use Rattle.std.specs.Prelude.{◌≡◌, ◌<◌, ◌≤◌, ◌^◌, ◌==◌, ℕ, Bool, true, false, ◌&&◌, ◌||◌, IsTrue, List, [], ◌∷◌, ◌++◌, length, map, codes, None}
 use Rattle.std.specs.List.{list_any, slice_split}
 use Rattle.std.specs.Fmt.{decimal}
 use Rattle.hex.specs.Hex.{IsBytes, encode_lower}
@@ -187,3 +187,15 @@ said sent (clock name ms) = line.Clock name ms
 said sent (opening mech role a b texts) = line.Open (record { mech = mech; role = role; a = a; b = b; p = None }) texts
 said sent (give run term) = line.Give run (replaced sent term)
 said sent (drop run) = line.Drop run
+
+-- the text says this, and each `@` of it names what is there
+abbrev pub Says : List Tree → List ℕ → Line → Type 0
+Says sent text l = (w : WrittenLine) × IsLine sent text w × IsTrue (is_line_named sent w) × (l ≡ said sent w)
+
+-- the text is a line, of which an `@` names nothing
+abbrev pub IsLineUnnamed : List Tree → List ℕ → Type 0
+IsLineUnnamed sent text = (w : WrittenLine) × IsLine sent text w × (is_line_named sent w ≡ false)
+
+-- two written lines say the same, and name what is there alike
+abbrev pub SaidAlike : List Tree → WrittenLine → WrittenLine → Type 0
+SaidAlike sent v w = (said sent v ≡ said sent w) × (is_line_named sent v ≡ is_line_named sent w)

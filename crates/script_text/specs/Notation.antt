@@ -1,5 +1,5 @@
 -- The notation of terms, and what a written text stands for once each `@` is replaced.
-use Rattle.std.specs.Prelude.{◌≡◌, ℕ, zero, suc, ◌+◌, ◌-◌, ◌*◌, ◌^◌, ◌<◌, ◌≤◌, ◌==◌, Bool, true, false, not, ◌&&◌, List, [], ◌∷◌, ◌++◌, length, slice_get, codes, Option, Some, None, is_some}
+use Rattle.std.specs.Prelude.{◌≡◌, ℕ, zero, suc, ◌+◌, ◌-◌, ◌*◌, ◌^◌, ◌<◌, ◌≤◌, ◌==◌, Bool, true, false, not, ◌&&◌, IsTrue, List, [], ◌∷◌, ◌++◌, length, slice_get, codes, Option, Some, None, is_some}
 use Rattle.std.specs.Char.{is_ascii_digit}
 use Rattle.std.specs.List.{list_all}
 use Rattle.std.specs.Fmt.{decimal}
@@ -198,3 +198,15 @@ pub record IsReading (sent : List Tree) (bytes : List ℕ) (w : Written) : Type 
   pub written : bytes ≡ notation w
   pub values : IsWellFormed w
   pub limits : IsInLimits (replaced sent w)
+
+-- the text writes this term, and each `@` of it names what is there
+abbrev pub IsReadAs : List Tree → List ℕ → Tree → Type 0
+IsReadAs sent bytes t = (w : Written) × IsReading sent bytes w × IsTrue (is_named sent w) × (t ≡ replaced sent w)
+
+-- the text writes a term, of which an `@` names nothing
+abbrev pub IsReadUnnamed : List Tree → List ℕ → Type 0
+IsReadUnnamed sent bytes = (w : Written) × IsReading sent bytes w × (is_named sent w ≡ false)
+
+-- two written terms stand for one term, and name what is there alike
+abbrev pub ReadAlike : List Tree → Written → Written → Type 0
+ReadAlike sent v w = (replaced sent v ≡ replaced sent w) × (is_named sent v ≡ is_named sent w)

@@ -25,6 +25,10 @@ pub record State : Type 0 where
   pub rest : List ℕ
   pub marks : Marks
 
+-- such a state
+abbrev pub state : List ℕ → Marks → State
+state rest marks = record { rest = rest; marks = marks }
+
 infixl 10 ◌>>=◌
 -- what follows is read only where something was
 abbrev pub ◌>>=◌ : {A B : Type 0} → Option A → (A → Option B) → Option B
@@ -196,3 +200,11 @@ unfoldable pub term_at : Bounds → List Tree → ℕ → State → Option (Tree
 term_at bounds sent zero s = None
 term_at bounds sent (suc below) s =
     byte_at s.rest >>= λ letter. tree_under bounds sent (suc below) (term_at bounds sent below) letter.0 (record { rest = letter.1; marks = s.marks })
+
+-- a term of a script, of so many levels
+abbrev pub term_in : List Tree → ℕ → State → Option (Tree × State)
+term_in sent levels s = term_at limits sent levels s
+
+-- what follows the first character of such a term, with so many levels below it
+abbrev pub term_under : List Tree → ℕ → ℕ → State → Option (Tree × State)
+term_under sent below letter s = tree_under limits sent (suc below) (term_at limits sent below) letter s

@@ -1,13 +1,11 @@
-ghost use Rattle.std.specs.Prelude.{◌≡◌, ◌^◌, ℕ, List, ◌∷◌, [], false, true, not, Err, IfOk, IfSome, IsNone, IsTrue, MatchResult, None, Some, is_some, map};
+ghost use Rattle.std.specs.Prelude.{◌≡◌, ℕ, List, ◌∷◌, [], true, not, Err, IfOk, IfSome, IsNone, IsTrue, MatchResult, None, Some, is_some, map};
 ghost use Rattle.std.specs.List.{count_by};
 ghost use Rattle.std.specs.Option.{option_copied};
 ghost use Rattle.term_values.specs.Trees.{Tree};
 ghost use Rattle.mech_rows.specs.Facts.{same_role};
 ghost use Rattle.mech_rows.specs.Found.{Once, found};
-ghost use Rattle.script_text.specs.declared.line.Line.TheVariants as LineOf;
-ghost use Rattle.script_text.specs.LineReading.{Gives, GivesExactly, allow_words, five_words, four_words, IsGiveWords, number_in, open_words, pair_words, plain_words, texts_from, three_words, two_words};
-ghost use Rattle.script_text.specs.Lines.{IsLine, WrittenLine, is_blank, is_line_named, is_offered, is_silent, said, sends_text, words_of};
-ghost use Rattle.script_text.specs.Notation.{IsReading, Written, is_named, replaced};
+ghost use Rattle.script_text.specs.LineReading.{Gives, GivesExactly, allow_words, five_words, four_words, IsGiveWords, IsGiven, IsGivenUnnamed, IsNoneGiven, open_words, pair_words, plain_words, texts_from, three_words, two_words};
+ghost use Rattle.script_text.specs.Lines.{IsLine, IsLineUnnamed, SaidAlike, Says, WrittenLine, is_blank, is_offered, is_silent, sends_text, words_of};
 
 use crate::bad::BadLine;
 use crate::line::Line;
@@ -284,9 +282,9 @@ fn give_words<'w>(words: &[&'w [u8]]) -> Option<(&'w [u8], &'w [u8])>
 
 /// A line `give`, of its run and its term.
 fn give(alloc: Global, run: &[u8], term: &[u8], sent: &[Term]) -> Result<Line, BadLine>
-    ensures ok { IfOk result (λ l. (n : ℕ) × (w : Written) × (number_in (2 ^ 32) run.now ≡ Some n) × IsReading sent.now term.now w × IsTrue (is_named sent.now w) × (l ≡ LineOf.Give n (replaced sent.now w))) }
-    ensures reference { result ≡ Err BadLine.Reference → (n : ℕ) × (w : Written) × (number_in (2 ^ 32) run.now ≡ Some n) × IsReading sent.now term.now w × (is_named sent.now w ≡ false) }
-    ensures grammar { result ≡ Err BadLine.Grammar → (n : ℕ) → number_in (2 ^ 32) run.now ≡ Some n → (w : Written) → IsReading sent.now term.now w → ⊥ }
+    ensures ok { IfOk result (λ l. IsGiven sent.now run.now term.now l) }
+    ensures reference { result ≡ Err BadLine.Reference → IsGivenUnnamed sent.now run.now term.now }
+    ensures grammar { result ≡ Err BadLine.Grammar → IsNoneGiven sent.now run.now term.now }
 {
     let run = words::u32(run)?;
     let term = read_term(alloc, term, sent)?;
@@ -318,8 +316,8 @@ fn count_blanks(text: &[u8]) -> usize
 /// nothing counts as the empty tuple here. [`BadLine::Reference`] exactly where the line has no such fault and an `@` of its
 /// term names nothing. [`BadLine::Memory`] for want of memory alone.
 pub fn read_line(alloc: Global, text: &[u8], sent: &[Term]) -> Result<Line, BadLine>
-    ensures ok { IfOk result (λ l. (w : WrittenLine) × IsLine sent.now text.now w × IsTrue (is_line_named sent.now w) × (l ≡ said sent.now w)) }
-    ensures reference { result ≡ Err BadLine.Reference → (w : WrittenLine) × IsLine sent.now text.now w × (is_line_named sent.now w ≡ false) }
+    ensures ok { IfOk result (λ l. Says sent.now text.now l) }
+    ensures reference { result ≡ Err BadLine.Reference → IsLineUnnamed sent.now text.now }
     ensures grammar { result ≡ Err BadLine.Grammar → (w : WrittenLine) → IsLine sent.now text.now w → ⊥ }
 {
     if is_silent(text) {
@@ -337,5 +335,5 @@ pub fn read_line(alloc: Global, text: &[u8], sent: &[Term]) -> Result<Line, BadL
 
 /// What a line says is determined: two ways to write it say the same, and name what is there alike.
 pub fn one_line()
-    ensures { (sent : List Tree) (text : List ℕ) (v w : WrittenLine) → IsLine sent text v → IsLine sent text w → (said sent v ≡ said sent w) × (is_line_named sent v ≡ is_line_named sent w) }
+    ensures { (sent : List Tree) (text : List ℕ) (v w : WrittenLine) → IsLine sent text v → IsLine sent text w → SaidAlike sent v w }
 {}

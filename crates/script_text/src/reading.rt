@@ -5,7 +5,7 @@ ghost use Rattle.std.specs.Option.{option_copied};
 ghost use Rattle.term_values.specs.Lengths.{length_of};
 ghost use Rattle.term_values.specs.TreeOf.{tree_of};
 ghost use Rattle.script_text.specs.Notation.{is_numeral, item_named, message_named, value_of};
-ghost use Rattle.script_text.specs.Reading.{Reads, ReadsExactly, State, atom_at, byte_at, bytes_at, digits_of, found_at, is_lower_digit, items_at, just, key_at, lent_at, limits, mark_at, name_at, number_at, numeral_at, sealed_at, second_at, sent_at, skip_at, term_at, tree_under, tuple_at, upto};
+ghost use Rattle.script_text.specs.Reading.{Reads, ReadsExactly, State, atom_at, byte_at, bytes_at, digits_of, found_at, is_lower_digit, items_at, just, key_at, lent_at, limits, mark_at, name_at, number_at, numeral_at, sealed_at, second_at, sent_at, skip_at, state, term_in, term_under, tuple_at, upto};
 
 use hex::FromHexError;
 use std::alloc::{AllocError, AllocFailed, Global};
@@ -444,7 +444,7 @@ impl<'a> Reader<'a> {
         levels: u32,
     ) -> Result<Term, ReadFault>
         requires { levels ≤ 8 }
-        ensures { Reads (λ t. t) result (record { rest = self.new.rest.now; marks = marks.new }) (term_at limits sent.now levels (record { rest = self.old.rest.now; marks = marks.old })) }
+        ensures { Reads (λ t. t) result (state self.new.rest.now marks.new) (term_in sent.now levels (state self.old.rest.now marks.old)) }
     {
         if levels == 0 {
             return Err(ReadFault::Malformed);
@@ -465,7 +465,7 @@ impl<'a> Reader<'a> {
         letter: u8,
     ) -> Result<Term, ReadFault>
         requires { below < 8 }
-        ensures { Reads (λ t. t) result (record { rest = self.new.rest.now; marks = marks.new }) (tree_under limits sent.now (suc below) (term_at limits sent.now below) letter (record { rest = self.old.rest.now; marks = marks.old })) }
+        ensures { Reads (λ t. t) result (state self.new.rest.now marks.new) (term_under sent.now below letter (state self.old.rest.now marks.old)) }
     {
         match letter {
             b'(' => {
@@ -499,7 +499,7 @@ impl<'a> Reader<'a> {
         below: u32,
     ) -> Result<(Key, Box<Term>), ReadFault>
         requires { below ≤ 8 }
-        ensures { Reads (λ s. (s.0, s.1.value)) result (record { rest = self.new.rest.now; marks = marks.new }) (sealed_at (term_at limits sent.now below) (record { rest = self.old.rest.now; marks = marks.old })) }
+        ensures { Reads (λ s. (s.0, s.1.value)) result (state self.new.rest.now marks.new) (sealed_at (term_in sent.now below) (state self.old.rest.now marks.old)) }
     {
         self.mark(b'[')?;
         let key = self.key()?;
@@ -518,7 +518,7 @@ impl<'a> Reader<'a> {
         below: u32,
     ) -> Result<Box<Term>, ReadFault>
         requires { below ≤ 8 }
-        ensures { Reads (λ t. t.value) result (record { rest = self.new.rest.now; marks = marks.new }) (term_at limits sent.now below (record { rest = self.old.rest.now; marks = marks.old })) }
+        ensures { Reads (λ t. t.value) result (state self.new.rest.now marks.new) (term_in sent.now below (state self.old.rest.now marks.old)) }
     {
         let body = self.term(alloc, sent, marks, below)?;
         Ok(Box::new(alloc, body)?)
@@ -534,7 +534,7 @@ impl<'a> Reader<'a> {
         below: u32,
     ) -> Result<Vec<Term>, ReadFault>
         requires { below ≤ 8 }
-        ensures { Reads (λ items. items.items) result (record { rest = self.new.rest.now; marks = marks.new }) (tuple_at (term_at limits sent.now below) 32 (record { rest = self.old.rest.now; marks = marks.old })) }
+        ensures { Reads (λ items. items.items) result (state self.new.rest.now marks.new) (tuple_at (term_in sent.now below) 32 (state self.old.rest.now marks.old)) }
     {
         if self.skips(b')') {
             return Ok(Vec::new(alloc));
@@ -551,7 +551,7 @@ impl<'a> Reader<'a> {
         below: u32,
     ) -> Result<Vec<Term>, ReadFault>
         requires { below ≤ 8 }
-        ensures { Reads (λ items. items.items) result (record { rest = self.new.rest.now; marks = marks.new }) (items_at (term_at limits sent.now below) 32 (record { rest = self.old.rest.now; marks = marks.old })) }
+        ensures { Reads (λ items. items.items) result (state self.new.rest.now marks.new) (items_at (term_in sent.now below) 32 (state self.old.rest.now marks.old)) }
     {
         let mut items = Vec::new(alloc);
         for _ in 0..ITEMS_MAX {
@@ -576,7 +576,7 @@ impl<'a> Reader<'a> {
         levels: u32,
     ) -> Result<Term, ReadFault>
         requires { levels ≤ 8 }
-        ensures { Reads (λ t. t) result (record { rest = self.new.rest.now; marks = marks.new }) (sent_at sent.now levels (record { rest = self.old.rest.now; marks = marks.old })) }
+        ensures { Reads (λ t. t) result (state self.new.rest.now marks.new) (sent_at sent.now levels (state self.old.rest.now marks.old)) }
     {
         let number = self.numeral()?;
         if !self.skips(b'.') {

@@ -1,8 +1,8 @@
-ghost use Rattle.std.specs.Prelude.{◌≡◌, ◌↔◌, ◌==◌, ℕ, List, false, IfOk, IsTrue, Err};
+ghost use Rattle.std.specs.Prelude.{◌≡◌, ◌↔◌, ◌==◌, ℕ, List, IfOk, IsTrue, Err};
 ghost use Rattle.std.specs.List.{count_by};
 ghost use Rattle.term_values.specs.Trees.{Tree};
 ghost use Rattle.tagged_codec.specs.Grammar.{IsInLimits};
-ghost use Rattle.script_text.specs.Notation.{IsReading, Written, is_named, replaced};
+ghost use Rattle.script_text.specs.Notation.{IsReadAs, IsReadUnnamed, IsReading, ReadAlike, Written};
 
 use crate::bad::BadLine;
 use crate::reading::{Marks, ReadFault, Reader};
@@ -45,8 +45,8 @@ fn count_commas(text: &[u8]) -> usize
 /// counts as the empty tuple here. [`BadLine::Reference`] exactly where it has no such fault and an `@` names nothing.
 /// [`BadLine::Memory`] for want of memory alone.
 pub fn read_term(alloc: Global, text: &[u8], sent: &[Term]) -> Result<Term, BadLine>
-    ensures ok { IfOk result (λ t. (w : Written) × IsReading sent.now text.now w × IsTrue (is_named sent.now w) × (t ≡ replaced sent.now w)) }
-    ensures reference { result ≡ Err BadLine.Reference → (w : Written) × IsReading sent.now text.now w × (is_named sent.now w ≡ false) }
+    ensures ok { IfOk result (λ t. IsReadAs sent.now text.now t) }
+    ensures reference { result ≡ Err BadLine.Reference → IsReadUnnamed sent.now text.now }
     ensures grammar { result ≡ Err BadLine.Grammar → (w : Written) → IsReading sent.now text.now w → ⊥ }
 {
     if count_commas(text) > SPELLING_MAX as usize {
@@ -72,5 +72,5 @@ pub fn read_term(alloc: Global, text: &[u8], sent: &[Term]) -> Result<Term, BadL
 
 /// What a text says is determined: two readings of it give one term, and name what is there alike.
 pub fn one_reading()
-    ensures { (sent : List Tree) (bytes : List ℕ) (v w : Written) → IsReading sent bytes v → IsReading sent bytes w → (replaced sent v ≡ replaced sent w) × (is_named sent v ≡ is_named sent w) }
+    ensures { (sent : List Tree) (bytes : List ℕ) (v w : Written) → IsReading sent bytes v → IsReading sent bytes w → ReadAlike sent v w }
 {}
