@@ -12,7 +12,8 @@ pub(crate) const NONCE_LEAD: u8 = 0xd0;
 /// The first byte of a drawn part.
 pub(crate) const PART_LEAD: u8 = 0xd1;
 
-/// Whether a nonce or part occurs in the term that begins as drawn ones do, and whose number isn't below so many draws.
+/// Whether a nonce or part occurs in the term that begins as drawn ones do, and whose number isn't
+/// below so many draws.
 #[tactic(auto, using(crate::proofs::Numbers::unborn_of, crate::proofs::Numbers::of_unborn))]
 pub(crate) fn has_unborn(term: &Term, draws: u64) -> bool
     ensures { IsTrue result ↔ HasUnborn draws term.now }
@@ -67,7 +68,8 @@ fn is_later(lead: u8, draws: u64, bytes: &[u8]) -> bool
     }
 }
 
-/// The number that the bytes spell, the greater byte first; 18,446,744,073,709,551,615 for a greater one.
+/// The number that the bytes spell, the greater byte first; 18,446,744,073,709,551,615 for a
+/// greater one.
 #[tactic(auto, using(crate::proofs::Numbers::read_on, crate::proofs::Numbers::all_read))]
 fn number_of(bytes: &[u8]) -> u64
     ensures { result ≡ min (number_from 0 bytes.now) (2 ^ 64 - 1) }

@@ -8,7 +8,8 @@ use term_values::Part;
 pub struct Config {
     /// The parties and third parties: at most 64, no two of one name.
     pub parties: Vec<Party>,
-    /// The long-term parts of pairs of them: each of two names that are declared and differ, no two of the same two names.
+    /// The long-term parts of pairs of them: each of two names that are declared and differ, no two
+    /// of the same two names.
     pub pairs: Vec<Pair>,
     /// The attacker's own parts.
     pub own: Vec<Part>,

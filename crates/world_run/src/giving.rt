@@ -124,9 +124,11 @@ fn answer(
 ///
 /// # Errors
 ///
-/// The first that holds: `NotDerivable`, `Unborn`, `UnknownRun`, `EndedRun`, `WrongPass`; of each part of the message `Unopened`,
-/// `WrongShape`, `WrongNames`, `WrongValue`; `TextRefused`; `StampsSpent`; of each received stamp `WrongStampKind`, `Early`, `Late`,
-/// `Repeated`, `StoreFull`. Want of memory, only where the term may be delivered and there is a run of that number.
+/// The first that holds: `NotDerivable`, `Unborn`, `UnknownRun`, `EndedRun`, `WrongPass`; of each
+/// part of the message `Unopened`, `WrongShape`, `WrongNames`, `WrongValue`; `TextRefused`;
+/// `StampsSpent`; of each received stamp `WrongStampKind`, `Early`, `Late`, `Repeated`,
+/// `StoreFull`. Want of memory, only where the term may be delivered and there is a run of that
+/// number.
 pub(crate) fn give_in(
     alloc: Global,
     scene: &mut Scene,

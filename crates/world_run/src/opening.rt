@@ -1,4 +1,4 @@
-ghost use Rattle.std.specs.Prelude.{true, false, ◌≡◌, ◌≢◌, ◌<◌, ◌≤◌, ◌+◌, ◌-◌, Some, Err, length, slice_get, take, IfOk, IfErr, OnErr};
+ghost use Rattle.std.specs.Prelude.{true, false, ◌≡◌, ◌≢◌, ◌<◌, ◌≤◌, ◌+◌, ◌-◌, None, Some, Err, length, slice_get, take, IfOk, IfErr, OnErr};
 ghost use Rattle.mech_rows.specs.Heads.{IsHead, me};
 ghost use Rattle.mech_rows.specs.Notes.{terms_of};
 ghost use Rattle.mech_rows.specs.Replies.{in_order, sends_first};
@@ -7,7 +7,7 @@ ghost use Rattle.agreement_laws.specs.Traces.{RunId};
 ghost use Rattle.node_desk.specs.Lives.{plays_live};
 ghost use Rattle.world_run.specs.Kept.{HasStepped, IsKept, view_of};
 ghost use Rattle.world_run.specs.Makings.{IsBrokenOff, IsNotFirst, SaysFirst};
-ghost use Rattle.world_run.specs.Opens.{IsOpened, IsOpenLeft, IsOpenRefused};
+ghost use Rattle.world_run.specs.Opens.{IsOpened, IsOpenLeft, IsOpenRefused, open_refusal};
 ghost use Rattle.world_run.specs.Starts.{HasBegun, HasSpoken, IsListed, IsUnbegun, IsUnlisted};
 ghost use Rattle.world_run.specs.Turns.{HasGrown, HasNumbers};
 ghost use Rattle.world_run.specs.Views.{is_over, sent_in};
@@ -22,7 +22,8 @@ use std::alloc::Global;
 use term_values::OutOfMemory;
 use text_hooks::RoleState;
 
-/// What the history tells of a run that begins in that state, and whether it says the first message.
+/// What the history tells of a run that begins in that state, and whether it says the first
+/// message.
 fn told_at_first<S: RoleState>(
     alloc: Global,
     state: S,
@@ -152,7 +153,8 @@ fn see_head(head: &RunHead)
 ///
 /// # Errors
 ///
-/// The first that holds of `UnknownParty`, `WrongKind`, `SelfPeer`, `NoKey`, `TableFull` and `StampsSpent`; want of memory.
+/// The first that holds of `UnknownParty`, `WrongKind`, `SelfPeer`, `NoKey`, `TableFull` and
+/// `StampsSpent`; want of memory, only where none of the first five holds.
 pub(crate) fn open_in(
     alloc: Global,
     scene: &mut Scene,
@@ -166,11 +168,15 @@ pub(crate) fn open_in(
     ensures ok { IfOk result (λ o. IsOpened (view_of scene.old) head.now texts.now o (view_of scene.new)) }
     ensures refused { IfErr result (λ e. e ≢ Memory → IsOpenRefused (view_of scene.old) head.now texts.now e (view_of scene.new)) }
     ensures left { result ≡ Err Memory → IsOpenLeft (view_of scene.old) head.now texts.now (view_of scene.new) }
+    ensures memory { result ≡ Err Memory → open_refusal (view_of scene.old) head.now ≡ None }
     ensures grows { HasGrown (view_of scene.old) (view_of scene.new) }
 {
     let party = head.me();
     if !scene.parties.has(party) {
         return Err(Refusal::UnknownParty);
+    }
+    if let Some(refusal) = scene.parties.opening_refusal(head) {
+        return Err(refusal);
     }
     scene.parties.reserve(scene.runs.len() + 4)?;
     let run = scene.parties.open_run(head, texts)?;

@@ -31,12 +31,12 @@ use tagged_codec::{EncodeFault, encode};
 use term_values::{Name, OutOfMemory, Term};
 use text_hooks::Hook;
 
-/// The parties of a world: their desks and clocks, and the order in which they acted. The type keeps that they are those of the
-/// configuration, with the rings that it gives them, that the order is that of their logs, and that their steps are over symbolic
-/// sealing.
+/// The parties of a world: their desks and clocks, and the order in which they acted. The type
+/// keeps that they are those of the configuration, with the rings that it gives them, that the
+/// order is that of their logs, and that their steps are over symbolic sealing.
 ///
-/// Contracts see the configuration, what the parties did in order, their clocks in milliseconds, and how many more events need no
-/// memory.
+/// Contracts see the configuration, what the parties did in order, their clocks in milliseconds,
+/// and how many more events need no memory.
 #[derive(Drop)]
 pub(crate) struct Parties {
     config: Config,
@@ -108,7 +108,8 @@ impl Parties {
         has_name(&self.seats, name)
     }
 
-    /// Raises the clock of a party to that time, in milliseconds, and answers the clock. Takes no memory.
+    /// Raises the clock of a party to that time, in milliseconds, and answers the clock. Takes no
+    /// memory.
     pub(crate) fn raise(&mut self, name: Name, ms: u64) -> u64
         requires declared { Among name (names_in self.old.config) }
         ensures raised { self.new ≡ record self.old { clocks = raised_by (names_in self.old.config) self.old.clocks name ms } }
@@ -129,12 +130,24 @@ impl Parties {
         self.order.reserve(more)
     }
 
+    /// Why a run of that head would not be opened: the first refusal that holds, which is never
+    /// want of memory. Takes no memory.
+    pub(crate) fn opening_refusal(&self, head: &RunHead) -> Option<Refusal>
+        requires declared { Among (me head.now) (names_in self.now.config) }
+        ensures refusal { result ≡ opening_refusal (node_at (desk_in (as_world self.now 0) (me head.now))) head.now }
+        ensures memory { result ≢ Some Memory }
+    {
+        let name = head.me();
+        let place = place_of(&self.seats, name);
+        self.seats[place].desk.opening_refusal(head)
+    }
+
     /// Opens a run of the party whose name is the head's own, and answers its number there.
     ///
     /// # Errors
     ///
-    /// The first that holds of `UnknownParty`, `WrongKind`, `SelfPeer`, `NoKey` and `TableFull`; want of memory. Nothing has changed
-    /// then.
+    /// The first that holds of `UnknownParty`, `WrongKind`, `SelfPeer`, `NoKey` and `TableFull`;
+    /// want of memory. Nothing has changed then.
     pub(crate) fn open_run(&mut self, head: &RunHead, texts: &Texts) -> Result<u32, Refusal>
         requires declared { Among (me head.now) (names_in self.old.config) }
         requires plays { plays_live head.now ≡ true }
@@ -168,12 +181,13 @@ impl Parties {
         self.seats[place].desk.look(run)
     }
 
-    /// Makes the step by which a run says its first message: issues a stamp where the run needs one, and draws.
+    /// Makes the step by which a run says its first message: issues a stamp where the run needs
+    /// one, and draws.
     ///
     /// # Errors
     ///
-    /// The first that holds: `UnknownRun`, `EndedRun`, `WrongPass` where the run doesn't say the first message now, `StampsSpent`;
-    /// nothing has changed then. Want of memory.
+    /// The first that holds: `UnknownRun`, `EndedRun`, `WrongPass` where the run doesn't say the
+    /// first message now, `StampsSpent`; nothing has changed then. Want of memory.
     pub(crate) fn make_first(
         &mut self,
         alloc: Global,
@@ -200,13 +214,14 @@ impl Parties {
         step
     }
 
-    /// Makes the step by which a run takes a term within the limits as its next message: issues a stamp where the run needs one for
-    /// its answer, and draws.
+    /// Makes the step by which a run takes a term within the limits as its next message: issues a
+    /// stamp where the run needs one for its answer, and draws.
     ///
     /// # Errors
     ///
-    /// The first that holds: `UnknownRun`, `EndedRun`, `WrongPass`; of each part of the message `Unopened`, `WrongShape`,
-    /// `WrongNames`, `WrongValue`; `TextRefused`; `StampsSpent`; nothing has changed then. Want of memory.
+    /// The first that holds: `UnknownRun`, `EndedRun`, `WrongPass`; of each part of the message
+    /// `Unopened`, `WrongShape`, `WrongNames`, `WrongValue`; `TextRefused`; `StampsSpent`; nothing
+    /// has changed then. Want of memory.
     pub(crate) fn make_step(
         &mut self,
         alloc: Global,
@@ -271,7 +286,8 @@ impl Parties {
         Ok(())
     }
 
-    /// Ends an open run; false exactly where it isn't open, and then nothing has changed. Takes no memory.
+    /// Ends an open run; false exactly where it isn't open, and then nothing has changed. Takes no
+    /// memory.
     pub(crate) fn drop_run(&mut self, name: Name, run: u32) -> bool
         requires declared { Among name (names_in self.old.config) }
         requires room { run_refusal (held_in self.old.acts (record { party = name; number = run })) ≡ None → 0 < self.old.room }

@@ -70,7 +70,8 @@ pub(crate) fn made_ready(
     Ok(turn)
 }
 
-/// Learns the reply and keeps it among the messages, for which there is room, and answers its number. Takes no memory.
+/// Learns the reply and keeps it among the messages, for which there is room, and answers its
+/// number. Takes no memory.
 pub(crate) fn hear(
     knowledge: &mut Knowledge,
     sent: &mut Vec<Term>,

@@ -1,4 +1,4 @@
-ghost use Rattle.std.specs.Prelude.{true, ◌≡◌, ◌≢◌, ◌↔◌, ◌+◌, [], Err, Some, ℕ, map, slice_get, IsTrue, OnOk, IfOk, IfErr};
+ghost use Rattle.std.specs.Prelude.{true, ◌≡◌, ◌≢◌, ◌↔◌, ◌+◌, [], Err, None, Some, ℕ, map, slice_get, IsTrue, OnOk, IfOk, IfErr};
 ghost use Rattle.std.specs.Option.{option_copied};
 ghost use Rattle.tagged_codec.specs.Grammar.{IsInLimits};
 ghost use Rattle.mech_rows.specs.declared.refusal.Refusal.TheVariants.{Memory};
@@ -27,11 +27,11 @@ use std::marker::Model;
 use term_values::{Name, Term};
 use text_hooks::Hook;
 
-/// A world: its parties, one attacker who hears and says all, and what has happened. The type keeps that it is one of the
-/// worlds that the laws on agreement speak of, so that it is sound.
+/// A world: its parties, one attacker who hears and says all, and what has happened. The type keeps
+/// that it is one of the worlds that the laws on agreement speak of, so that it is sound.
 ///
-/// Contracts see the configuration, what the parties did in order, their clocks in milliseconds, how many values were drawn,
-/// and of each run that has a number its party and its number there.
+/// Contracts see the configuration, what the parties did in order, their clocks in milliseconds,
+/// how many values were drawn, and of each run that has a number its party and its number there.
 #[derive(Drop)]
 pub struct World {
     alloc: Global,
@@ -63,12 +63,12 @@ impl World {
     ghost use Rattle.world_run.specs.Clocks.{Raises};
     ghost use Rattle.world_run.specs.Gives.{Drops, IsGiven, IsGiveLeft, IsGiveRefused, MayBeGiven};
     ghost use Rattle.world_run.specs.Kept.{IsGenuine};
-    ghost use Rattle.world_run.specs.Opens.{IsOpened, IsOpenLeft, IsOpenRefused};
+    ghost use Rattle.world_run.specs.Opens.{IsOpened, IsOpenLeft, IsOpenRefused, open_refusal};
     ghost use Rattle.world_run.specs.Turns.{HasGrown, HasNumbers};
     ghost use Rattle.world_run.specs.Views.{entries, known_in, sent_in, told_by, told_of};
 
-    /// A world in which nothing has happened: all clocks are 0, no value was drawn, and the attacker has its own parts and
-    /// those of the revealed pairs.
+    /// A world in which nothing has happened: all clocks are 0, no value was drawn, and the
+    /// attacker has its own parts and those of the revealed pairs.
     ///
     /// # Errors
     ///
@@ -100,9 +100,10 @@ impl World {
         Ok(World { alloc, scene })
     }
 
-    /// What has happened, as it stands. It is what a world of the laws has come to, so what they say of worlds holds of it:
-    /// each completion with a claim has a partner, no run agrees with two of them, and no secret is derivable. Its runs have the
-    /// numbers 1, 2, and so on. Takes no memory.
+    /// What has happened, as it stands. It is what a world of the laws has come to, so what they
+    /// say of worlds holds of it: each completion with a claim has a partner, no run agrees with
+    /// two of them, and no secret is derivable. Its runs have the numbers 1, 2, and so on. Takes no
+    /// memory.
     pub fn history(&self) -> &History
         ensures told { told_by result.now ≡ told_of self.now }
         ensures numbered { (i : ℕ) (r : Happened) → slice_get result.now.happened i ≡ Some r → r.run ≡ i + 1 }
@@ -113,7 +114,8 @@ impl World {
         &self.scene.history
     }
 
-    /// What the attacker knows; what it derives is what can be derived in the eyes of the laws. Takes no memory.
+    /// What the attacker knows; what it derives is what can be derived in the eyes of the laws.
+    /// Takes no memory.
     pub fn knowledge(&self) -> &Knowledge
         ensures given { result.now.given ≡ known_in self.now }
         ensures known { (t : Tree) → Derivable result.now.given t ↔ Derivable (known_before self.now.config (trace (entries self.now.acts))) t }
@@ -121,15 +123,16 @@ impl World {
         &self.scene.knowledge
     }
 
-    /// Message m, from 1, in the order of sending; None exactly where no message m was sent. Takes no memory.
+    /// Message m, from 1, in the order of sending; None exactly where no message m was sent. Takes
+    /// no memory.
     pub fn message(&self, m: u32) -> Option<&Term>
         ensures sent { option_copied result ≡ message_at (sent_in self.now.acts) m }
     {
         message_of(&self.scene.history, m)
     }
 
-    /// Whether there are numbers for one more run and one more message, and draws for it: up to 4,294,967,294 runs and messages, and
-    /// 18,446,744,073,709,551,599 draws. Takes no memory.
+    /// Whether there are numbers for one more run and one more message, and draws for it: up to
+    /// 4,294,967,294 runs and messages, and 18,446,744,073,709,551,599 draws. Takes no memory.
     pub fn has_numbers(&self) -> bool
         ensures { IsTrue result ↔ HasNumbers self.now }
     {
@@ -139,7 +142,8 @@ impl World {
             && self.scene.draws.count() < 18_446_744_073_709_551_600
     }
 
-    /// Raises the clock of a party to the greater of itself and that time, in milliseconds, and answers it. Takes no memory.
+    /// Raises the clock of a party to the greater of itself and that time, in milliseconds, and
+    /// answers it. Takes no memory.
     ///
     /// # Errors
     ///
@@ -153,36 +157,42 @@ impl World {
         Ok(self.scene.parties.raise(party, ms))
     }
 
-    /// Opens a run of the party whose name is the head's own, gives it the next number, and lets it say the first message where its
-    /// role does so. There are numbers for the run and its message, and draws for it; the mechanism is one of E1 to E4 and C1 to C4.
+    /// Opens a run of the party whose name is the head's own, gives it the next number, and lets it
+    /// say the first message where its role does so. There are numbers for the run and its message,
+    /// and draws for it; the mechanism is one of E1 to E4 and C1 to C4.
     ///
     /// # Errors
     ///
-    /// The first that holds of `UnknownParty`, `WrongKind`, `SelfPeer`, `NoKey` and `TableFull`, after which nothing has changed, and
-    /// `StampsSpent`, after which the party has opened the run and dropped it. Want of memory, after which nothing has changed, or the
-    /// party has opened the run and dropped it, and may have issued its stamp before; what was drawn isn't given back. A run that was
-    /// dropped so has no number.
+    /// The first that holds of `UnknownParty`, `WrongKind`, `SelfPeer`, `NoKey` and `TableFull`,
+    /// after which nothing has changed, and `StampsSpent`, after which the party has opened the run
+    /// and dropped it. Want of memory, only where none of the first five holds, after which nothing
+    /// has changed, or the party has opened the run and dropped it, and may have issued its stamp
+    /// before; what was drawn isn't given back. A run that was dropped so has no number.
     pub fn open(&mut self, head: &RunHead, texts: &Texts) -> Result<Opened, Refusal>
         requires plays { plays_live head.now ≡ true }
         requires numbers { HasNumbers self.old }
         ensures ok { IfOk result (λ o. IsOpened self.old head.now texts.now o self.new) }
         ensures refused { IfErr result (λ e. e ≢ Memory → IsOpenRefused self.old head.now texts.now e self.new) }
         ensures left { result ≡ Err Memory → IsOpenLeft self.old head.now texts.now self.new }
+        ensures memory { result ≡ Err Memory → open_refusal self.old head.now ≡ None }
         ensures grows { HasGrown self.old self.new }
     {
         open_in(self.alloc, &mut self.scene, head, texts)
     }
 
-    /// Gives a term, which is within the limits of the codec, to a run as its next message. A reply is known to the attacker at once.
-    /// There are numbers for a run and a message, and draws for the reply.
+    /// Gives a term, which is within the limits of the codec, to a run as its next message. A reply
+    /// is known to the attacker at once. There are numbers for a run and a message, and draws for
+    /// the reply.
     ///
     /// # Errors
     ///
-    /// The first that holds: `NotDerivable`, `Unborn`, `UnknownRun`, `EndedRun`, `WrongPass`; of each part of the message `Unopened`,
-    /// `WrongShape`, `WrongNames`, `WrongValue`; `TextRefused`; `StampsSpent`; nothing has changed then. Of each received stamp
-    /// `WrongStampKind`, `Early`, `Late`, `Repeated`, `StoreFull`; the party has issued the stamp of its reply then, and drawn the
-    /// values. Want of memory, only where the term may be delivered and there is a run of that number, after which nothing has
-    /// changed, or the stamp was issued; what was drawn isn't given back.
+    /// The first that holds: `NotDerivable`, `Unborn`, `UnknownRun`, `EndedRun`, `WrongPass`; of
+    /// each part of the message `Unopened`, `WrongShape`, `WrongNames`, `WrongValue`;
+    /// `TextRefused`; `StampsSpent`; nothing has changed then. Of each received stamp
+    /// `WrongStampKind`, `Early`, `Late`, `Repeated`, `StoreFull`; the party has issued the stamp
+    /// of its reply then, and drawn the values. Want of memory, only where the term may be
+    /// delivered and there is a run of that number, after which nothing has changed, or the stamp
+    /// was issued; what was drawn isn't given back.
     pub fn give(&mut self, hook: &Hook, run: u32, term: &Term) -> Result<Given, Refusal>
         requires limits { IsInLimits term.now }
         requires numbers { HasNumbers self.old }

@@ -4,6 +4,7 @@ use Rattle.std.proofs.lemmas.List.{append-nil}
 use Rattle.std.proofs.lemmas.Result.{err_from_is_err_and}
 use Rattle.term_values.specs.Trees.{Among}
 use Rattle.mech_rows.specs.Heads.{me}
+use Rattle.mech_rows.specs.declared.refusal.Refusal.TheVariants.{Memory}
 use Rattle.agreement_laws.specs.Configs.{Config, names_in}
 use Rattle.agreement_laws.specs.Traces.{RunId}
 use Rattle.node_desk.specs.declared.event.Event.TheVariants.{Open, Drop}
@@ -40,6 +41,30 @@ returns-then-not-has-clause-left c = λ _. left_same (view_of c.args.scene.now) 
 
 pub returns-then-not-has-clause-grows : goal.returns-then-not-has-clause-grows
 returns-then-not-has-clause-grows c = grown_left (view_of c.args.scene.now) c.args.head.now c.args.texts.now (view_of c.args.scene.now) (left_same (view_of c.args.scene.now) c.args.head.now c.args.texts.now (view_of c.args.scene.now) refl)
+
+pub opening_refusal-requires : goal.opening_refusal-requires
+opening_refusal-requires c = record { declared = subst (λ (n : ℕ). Among n (names_in c.args.scene.now.parties.config)) c.me-party.ensures.name (c.has.ensures.0 c.if-not-has.false) }
+
+pub returns-in-Some-clause-refused : goal.returns-in-Some-clause-refused
+returns-in-Some-clause-refused c = λ other. inl (refused_so (view_of c.args.scene.now) c.args.head.now (Some c.in-Some.refusal) (subst (λ (n : ℕ). Among n (names_in c.args.scene.now.parties.config)) c.me-party.ensures.name (c.has.ensures.0 c.if-not-has.false)) (sym c.in-Some.ensures.refusal), refl)
+
+pub returns-in-Some-clause-left : goal.returns-in-Some-clause-left
+returns-in-Some-clause-left c = λ _. left_same (view_of c.args.scene.now) c.args.head.now c.args.texts.now (view_of c.args.scene.now) refl
+
+pub returns-in-Some-clause-memory : goal.returns-in-Some-clause-memory
+returns-in-Some-clause-memory c = λ is. absurd (c.in-Some.ensures.memory (let want : c.in-Some.refusal ≡ Memory = cc in ap Some want))
+
+pub returns-in-Some-clause-grows : goal.returns-in-Some-clause-grows
+returns-in-Some-clause-grows c = grown_left (view_of c.args.scene.now) c.args.head.now c.args.texts.now (view_of c.args.scene.now) (left_same (view_of c.args.scene.now) c.args.head.now c.args.texts.now (view_of c.args.scene.now) refl)
+
+pub returns-in_err-reserve-clause-memory : goal.returns-in_err-reserve-clause-memory
+returns-in_err-reserve-clause-memory c = λ _. refused_so (view_of c.args.scene.now) c.args.head.now None (subst (λ (n : ℕ). Among n (names_in c.args.scene.now.parties.config)) c.me-party.ensures.name (c.has.ensures.0 c.if-not-has.false)) (sym c.in_default.ensures.refusal)
+
+pub returns-in_err-run-clause-memory : goal.returns-in_err-run-clause-memory
+returns-in_err-run-clause-memory c = λ _. refused_so (view_of c.args.scene.now) c.args.head.now None (subst (λ (n : ℕ). Among n (names_in c.args.scene.now.parties.config)) c.me-party.ensures.name (c.has.ensures.0 c.if-not-has.false)) (sym c.in_default.ensures.refusal)
+
+pub returns-in-Err-clause-memory : goal.returns-in-Err-clause-memory
+returns-in-Err-clause-memory c = λ _. refused_so (view_of c.args.scene.now) c.args.head.now None (subst (λ (n : ℕ). Among n (names_in c.args.scene.now.parties.config)) c.me-party.ensures.name (c.has.ensures.0 c.if-not-has.false)) (sym c.in_default.ensures.refusal)
 
 pub returns-in_err-reserve-clause-kept : goal.returns-in_err-reserve-clause-kept
 returns-in_err-reserve-clause-kept c = (kept_same c.args.scene.now (record c.args.scene.now { parties = c.reserve.new.self }) c.requires.kept (view_reserved c.args.scene.now c.reserve.new.self c.reserve.ensures.same) refl refl c.reserve.ensures.grows)

@@ -1,8 +1,8 @@
-use Rattle.std.proofs.Common.{◌≢◌, subst, sym}
+use Rattle.std.proofs.Common.{◌≡◌, ◌≢◌, None, subst, sym}
 use Rattle.std.specs.Result.{IfErr}
 use Rattle.mech_rows.specs.declared.refusal.Refusal.TheVariants.{Memory}
 use Rattle.world_run.specs.Kept.{view_of}
-use Rattle.world_run.specs.Opens.{IsOpenRefused}
+use Rattle.world_run.specs.Opens.{IsOpenRefused, open_refusal}
 use Rattle.world_run.specs.Turns.{HasNumbers}
 use Rattle.world_run.specs.Views.{WorldView}
 use Rattle.world_run.proofs.world.World.open.Goals as goal
@@ -21,3 +21,6 @@ returns-clause-left c = rw (← c.self.view_is) c.open_in.ensures.left
 
 pub returns-clause-grows : goal.returns-clause-grows
 returns-clause-grows c = rw (← c.self.view_is) c.open_in.ensures.grows
+
+pub returns-clause-memory : goal.returns-clause-memory
+returns-clause-memory c = λ e. subst (λ (w : WorldView). open_refusal w c.args.head.now ≡ None) c.self.view_is (c.open_in.ensures.memory e)
