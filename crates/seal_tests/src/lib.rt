@@ -2,6 +2,8 @@
 #![tactic(auto)]
 
 #[cfg(test)]
+mod long_seals;
+#[cfg(test)]
 mod macs;
 #[cfg(test)]
 mod seals;
