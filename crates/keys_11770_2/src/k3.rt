@@ -10,7 +10,6 @@ ghost use Rattle.keys_11770_2.specs.declared.k3.StageB.TheVariants.{Start as Sta
 
 // Pass 1, A to B: a seal of Ta, Fa, X1.
 
-use crate::parts::said_with;
 use crate::shown::PartText;
 use mech_rows::{Got, Mech, Opening, Refusal, Ring, Role, RunHead, Slot, Stated, Texts, Value};
 use outside::Draws;
@@ -20,7 +19,7 @@ use term_values::{OutOfMemory, Part, Stamp, Tag, Term, Text};
 use text_hooks::{
     Delivery, NoteList, Pair, Phase, Reply, RoleState, Shown, SlotValue, Taken, add, draw_part,
     item_at, judged_by, key_between, open_item, own_text, part_at, read_body, read_message,
-    say_item, stamp_at, take_text, text_at, two_values,
+    said_with, say_item, stamp_at, take_text, text_at, two_values,
 };
 
 /// It has sent its part of the key, with a stamp.

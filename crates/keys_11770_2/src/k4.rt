@@ -6,13 +6,13 @@ ghost use Rattle.text_hooks.specs.Leading.{Leads, Refuses};
 ghost use Rattle.text_hooks.specs.Names.{key_of, opened_by};
 ghost use Rattle.keys_11770_2.specs.K4A.{is_k4a, run as run_a};
 ghost use Rattle.keys_11770_2.specs.K4B.{is_k4b, run as run_b};
-ghost use Rattle.keys_11770_2.specs.declared.k4.StageA.TheVariants.{Start as StartA, Heard as HeardA};
+ghost use Rattle.keys_11770_2.specs.declared.k4.StageA.TheVariants.{Start as StartA};
+ghost use Rattle.keys_11770_2.specs.declared.k4.StageA.TheVariants.{Heard as HeardA};
 ghost use Rattle.keys_11770_2.specs.declared.k4.StageB.TheVariants.{Asked as AskedB, Done as DoneB};
 
 // Pass 1, B to A: Rb in the clear.
 // Pass 2, A to B: a seal of Rb, Fa, X1.
 
-use crate::parts::said_with;
 use crate::shown::PartText;
 use mech_rows::{Clear, Mech, Opening, Refusal, Ring, Role, RunHead, Slot, Stated, Texts, Value};
 use outside::Draws;
@@ -22,7 +22,8 @@ use term_values::{Nonce, OutOfMemory, Part, Stamp, Tag, Term, Text};
 use text_hooks::{
     Delivery, NoteList, Pair, Phase, Reply, RoleState, Shown, SlotValue, Taken, add, compare_nonce,
     draw_nonce, draw_part, grown, grown_by, item_at, key_between, nonce_alone, nonce_at, open_item,
-    own_text, part_at, read_body, read_message, say_item, take_text, text_at, two_values,
+    own_text, part_at, read_body, read_message, said_with, say_item, take_text, text_at,
+    two_values,
 };
 
 /// It has heard the nonce of B.

@@ -7,12 +7,12 @@ ghost use Rattle.text_hooks.specs.Names.{key_of, opened_by};
 ghost use Rattle.keys_11770_2.specs.K5A.{is_k5a, run as run_a};
 ghost use Rattle.keys_11770_2.specs.K5B.{is_k5b, run as run_b};
 ghost use Rattle.keys_11770_2.specs.declared.k5.StageA.TheVariants.{Sent as SentA, Done as DoneA};
-ghost use Rattle.keys_11770_2.specs.declared.k5.StageB.TheVariants.{Start as StartB, Heard as HeardB};
+ghost use Rattle.keys_11770_2.specs.declared.k5.StageB.TheVariants.{Start as StartB};
+ghost use Rattle.keys_11770_2.specs.declared.k5.StageB.TheVariants.{Heard as HeardB};
 
 // Pass 1, A to B: a seal of Ta, Fa, X1.
 // Pass 2, B to A: a seal of Tb, Ta, Fb, X2.
 
-use crate::parts::said_with;
 use crate::pieces::two_stamps_and_part;
 use mech_rows::{Got, Mech, Opening, Refusal, Ring, Role, RunHead, Slot, Stated, Texts, Value};
 use outside::Draws;
@@ -22,7 +22,7 @@ use term_values::{OutOfMemory, Part, Stamp, Tag, Term, Text};
 use text_hooks::{
     Delivery, NoteList, Pair, Phase, Reply, RoleState, Shown, SlotValue, Taken, add, compare_stamp,
     draw_part, grown_and_judged, item_at, key_between, open_item, own_text, part_at, read_body,
-    read_message, say_item, stamp_at, take_text, text_at, two_values,
+    read_message, said_with, say_item, stamp_at, take_text, text_at, two_values,
 };
 
 /// The text that A seals.

@@ -6,14 +6,16 @@ ghost use Rattle.text_hooks.specs.Leading.{Leads, Refuses};
 ghost use Rattle.text_hooks.specs.Names.{key_of, opened_by};
 ghost use Rattle.keys_11770_2.specs.K6A.{is_k6a, run as run_a};
 ghost use Rattle.keys_11770_2.specs.K6B.{is_k6b, run as run_b};
-ghost use Rattle.keys_11770_2.specs.declared.k6.StageA.TheVariants.{Start as StartA, Heard as HeardA, Sent as SentA, Done as DoneA};
-ghost use Rattle.keys_11770_2.specs.declared.k6.StageB.TheVariants.{Asked as AskedB, Heard as HeardB};
+ghost use Rattle.keys_11770_2.specs.declared.k6.StageA.TheVariants.{Start as StartA};
+ghost use Rattle.keys_11770_2.specs.declared.k6.StageA.TheVariants.{Heard as HeardA, Sent as SentA};
+ghost use Rattle.keys_11770_2.specs.declared.k6.StageA.TheVariants.{Done as DoneA};
+ghost use Rattle.keys_11770_2.specs.declared.k6.StageB.TheVariants.{Asked as AskedB};
+ghost use Rattle.keys_11770_2.specs.declared.k6.StageB.TheVariants.{Heard as HeardB};
 
 // Pass 1, B to A: Rb, X1 in the clear.
 // Pass 2, A to B: a seal of Ra, Rb, Fa, X2.
 // Pass 3, B to A: a seal of Rb, Ra, Fb, X3.
 
-use crate::parts::said_with;
 use crate::pieces::two_nonces_and_part;
 use mech_rows::{Clear, Mech, Opening, Refusal, Ring, Role, RunHead, Slot, Stated, Texts, Value};
 use outside::Draws;
@@ -23,7 +25,8 @@ use term_values::{Nonce, OutOfMemory, Part, Stamp, Tag, Term, Text};
 use text_hooks::{
     Challenge, Delivery, NoteList, Pair, Phase, Reply, RoleState, Shown, Taken, add, asked,
     challenge, compare_nonce, draw_nonce, draw_part, grown, grown_by, item_at, key_between,
-    nonce_at, open_item, own_text, part_at, read_body, read_message, say_item, take_text, text_at,
+    nonce_at, open_item, own_text, part_at, read_body, read_message, said_with, say_item,
+    take_text, text_at,
 };
 
 /// The text that A seals.

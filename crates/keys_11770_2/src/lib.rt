@@ -5,7 +5,6 @@ mod k3;
 mod k4;
 mod k5;
 mod k6;
-mod parts;
 mod pieces;
 mod shown;
 mod state;

@@ -11,3 +11,4 @@ pub mod Judged
 pub mod Shown
 pub mod Known
 pub mod Made
+pub mod Trios

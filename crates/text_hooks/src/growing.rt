@@ -23,6 +23,19 @@ pub fn grown<K: Clone, V: Drop>(known: &K, read: Result<V, Refusal>) -> Result<(
     Ok((old, new))
 }
 
+/// What is held, beside what was read or made.
+///
+/// # Errors
+///
+/// The refusal of what was read or made.
+pub fn beside<T: Drop, U: Drop>(held: T, new: Result<U, Refusal>) -> Result<(T, U), Refusal>
+    ensures both { IfOk result (λ p. (p.0 ≡ held) × (new ≡ Ok p.1)) }
+    ensures refused { IfErr result (λ e. new ≡ Err e) }
+{
+    let new = new?;
+    Ok((held, new))
+}
+
 /// What was read of an item, which was opened or tested, and a list of that item.
 ///
 /// # Errors
@@ -116,6 +129,26 @@ pub fn said_still<K: Clone>(alloc: Global, known: &K, said: Said) -> Result<Repl
 {
     let after = known.clone()?;
     let (message, sealed) = parts_of(alloc, said)?;
+    Ok(Reply {
+        after,
+        message,
+        sealed,
+    })
+}
+
+/// What is known, and a message with the items that were made for it.
+///
+/// # Errors
+///
+/// Want of memory alone.
+pub fn said_with<K: Clone>(known: &K, said: (Term, Vec<Opening>)) -> Result<Reply<K>, Refusal>
+    ensures after { IfOk result (λ r. K.is_clone known.now r.after) }
+    ensures message { IfOk result (λ r. r.message ≡ said.0) }
+    ensures sealed { IfOk result (λ r. r.sealed.items ≡ said.1.items) }
+    ensures memory { IfErr result (λ e. e ≡ Memory) }
+{
+    let (message, sealed) = said;
+    let after = known.clone()?;
     Ok(Reply {
         after,
         message,

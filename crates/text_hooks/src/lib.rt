@@ -21,11 +21,14 @@ mod saying;
 mod sealing;
 mod shown;
 mod steps;
+mod trio;
 mod values;
 
 pub use bodies::{one_value, two_nonces, two_values};
 pub use delivery::Delivery;
-pub use growing::{asked, grown, grown_and_judged, grown_by, judged_by, read_by, said_still};
+pub use growing::{
+    asked, beside, grown, grown_and_judged, grown_by, judged_by, read_by, said_still, said_with,
+};
 pub use hook::{Hook, Judgement};
 pub use known::{Asked, Challenged, Challenging, Sent, Stamped};
 pub use laws::states_are_runs;
@@ -42,12 +45,15 @@ pub use reading::{item_at, read_body, read_message};
 pub use role_state::{Reply, RoleState, Taken};
 pub use rule::{Rule, judge_by};
 pub use saying::{Said, challenge, nonce_alone, say_checked, say_item, say_sealed};
-pub use sealing::{draw_nonce, draw_part};
+pub use sealing::{Unsealed, draw_nonce, draw_part, seal_item};
 pub use shown::{
     AnswerTexts, Challenge, ChallengeText, ChallengerTexts, CheckedToken, FirstTexts, SealedToken,
     SecondTexts,
 };
 pub use steps::{compose, first, prepare};
+pub use trio::{
+    Family, Trio, by_nonces, by_stamps, nonces_tag, stamps_tag, trio_by_nonces, trio_by_stamps,
+};
 pub use values::{
     compare_nonce, compare_stamp, key_at, nonce_at, part_at, stamp_at, take_text, take_texts,
     take_token, text_at,

@@ -1,8 +1,11 @@
-ghost use Rattle.std.specs.Prelude.{◌≡◌, ◌+◌, ◌<◌, ◌≤◌, ◌↔◌, true, false, List, [], Ok, Err, length, IsTrue, IfOk, MatchResult};
+ghost use Rattle.std.specs.Prelude.{◌≡◌, ◌+◌, ◌<◌, ◌≤◌, ◌↔◌, true, false, List, [], Ok, Err};
+ghost use Rattle.std.specs.Prelude.{length, IsTrue, IfOk, MatchResult};
 ghost use Rattle.term_values.specs.Trees.{tag, name};
 ghost use Rattle.mech_rows.specs.Rows.{kind_of};
 ghost use Rattle.term_values.specs.Same.{same};
-ghost use Rattle.mech_rows.specs.Verdict.{items_of, at, has_kind, is_name, are_kinds, are_clear, are_kept, clear_names, name_kinds, same_names, message_items, body_items};
+ghost use Rattle.mech_rows.specs.Verdict.{items_of, at, has_kind, is_name, are_kinds, are_clear};
+ghost use Rattle.mech_rows.specs.Verdict.{are_kept, clear_names, name_kinds, same_names};
+ghost use Rattle.mech_rows.specs.Verdict.{message_items, body_items};
 
 use mech_rows::{Clear, Kind, Refusal, Slot};
 use term_values::{Form, Name, Tag, Term};

@@ -1,4 +1,5 @@
-ghost use Rattle.std.specs.Prelude.{◌≡◌, ◌≢◌, ◌≤◌, ◌∷◌, ◌++◌, [], true, Some, IfOk, IfErr, IfSome, if◌then◌else◌, length};
+ghost use Rattle.std.specs.Prelude.{◌≡◌, ◌≢◌, ◌≤◌, ◌∷◌, ◌++◌, [], true, Some, IfOk, IfErr, IfSome};
+ghost use Rattle.std.specs.Prelude.{if◌then◌else◌, length};
 ghost use Rattle.term_values.specs.Trees.{tuple, trees, tag, nonce, text};
 ghost use Rattle.tagged_codec.specs.Grammar.{IsInLimits};
 ghost use Rattle.mech_rows.specs.declared.refusal.Refusal.TheVariants.{Memory};

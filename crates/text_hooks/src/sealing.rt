@@ -1,4 +1,5 @@
-ghost use Rattle.std.specs.Prelude.{◌≡◌, ◌≢◌, ◌≤◌, ◌∷◌, [], true, false, Some, None, IfOk, IfErr, OnErr, OnOk, IfSome, is_some, if◌then◌else◌};
+ghost use Rattle.std.specs.Prelude.{◌≡◌, ◌≢◌, ◌≤◌, ◌∷◌, [], true, false, Some, None, IfOk, IfErr};
+ghost use Rattle.std.specs.Prelude.{OnErr, OnOk, IfSome, is_some, if◌then◌else◌};
 ghost use Rattle.outside.specs.Told.{nonce_draw, part_draw, next_draw};
 ghost use Rattle.mech_rows.specs.declared.refusal.Refusal.TheVariants.{Memory};
 ghost use Rattle.text_hooks.specs.Parts.{IsFlat, IsMadeItem};
@@ -10,6 +11,15 @@ use outside::Draws;
 use seal_trait::Sealer;
 use std::alloc::Global;
 use term_values::{Key, Nonce, Part, Term};
+
+/// A body, and the key under which it is to be sealed.
+#[derive(Drop)]
+pub struct Unsealed {
+    /// The key.
+    pub key: Key,
+    /// The body.
+    pub body: Term,
+}
 
 /// The next nonce of the draws.
 ///

@@ -1,4 +1,6 @@
-ghost use Rattle.std.specs.Prelude.{◌≡◌, ◌≢◌, ◌≤◌, ◌&&◌, ◌==◌, true, false, Some, None, Ok, Err, ℕ, suc, ◌⊎◌, [], IfOk, IfErr, OnOk, IfSome, is_some, ◌+◌, length, MatchResult};
+ghost use Rattle.std.specs.Prelude.{◌≡◌, ◌≢◌, ◌≤◌, ◌&&◌, ◌==◌, true, false, Some, None, Ok, Err, ℕ};
+ghost use Rattle.std.specs.Prelude.{suc, ◌⊎◌, [], IfOk, IfErr, OnOk, IfSome, is_some, ◌+◌, length};
+ghost use Rattle.std.specs.Prelude.{MatchResult};
 ghost use Rattle.term_values.specs.declared.Why.{Why};
 ghost use Rattle.term_values.specs.Trees.{Tree};
 ghost use Rattle.tagged_codec.specs.Faults.{IsWholeFault};

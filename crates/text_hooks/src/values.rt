@@ -1,11 +1,15 @@
-ghost use Rattle.std.specs.Prelude.{◌≡◌, ◌≢◌, ◌↔◌, ◌∷◌, [], true, false, Some, IsTrue, IfOk, IfErr, OnOk};
+ghost use Rattle.std.specs.Prelude.{◌≡◌, ◌≢◌, ◌↔◌, ◌∷◌, [], true, false, Some, IsTrue, IfOk, IfErr};
+ghost use Rattle.std.specs.Prelude.{OnOk};
 ghost use Rattle.term_values.specs.Trees.{nonce, stamp, part, text};
 ghost use Rattle.term_values.specs.declared.small.Key.TheVariants.{One};
-ghost use Rattle.mech_rows.specs.declared.kinds.Kind.TheVariants.{Nonce as a_nonce, Stamp as a_stamp, Part as a_part, Text as a_text};
+ghost use Rattle.mech_rows.specs.declared.kinds.Kind.TheVariants.{Nonce as a_nonce};
+ghost use Rattle.mech_rows.specs.declared.kinds.Kind.TheVariants.{Stamp as a_stamp, Part as a_part};
+ghost use Rattle.mech_rows.specs.declared.kinds.Kind.TheVariants.{Text as a_text};
 ghost use Rattle.mech_rows.specs.Runs.{part_bytes};
 ghost use Rattle.term_values.specs.Same.{same};
 ghost use Rattle.mech_rows.specs.Verdict.{at, has_kind};
-ghost use Rattle.mech_rows.specs.declared.refusal.Refusal.TheVariants.{Memory, WrongValue, TextRefused};
+ghost use Rattle.mech_rows.specs.declared.refusal.Refusal.TheVariants.{Memory, WrongValue};
+ghost use Rattle.mech_rows.specs.declared.refusal.Refusal.TheVariants.{TextRefused};
 ghost use Rattle.text_hooks.specs.Judged.{refused_of_two};
 ghost use Rattle.text_hooks.specs.Made.{IsRefusedText, IsWrongValue};
 ghost use Rattle.text_hooks.specs.Rules.{allowed};
