@@ -1,0 +1,4 @@
+pub mod Words
+pub mod StampsP
+pub mod NoncesP
+pub mod PStates

@@ -1,0 +1,4 @@
+pub mod Rest
+pub mod Families
+pub mod Tickets
+pub mod Growing

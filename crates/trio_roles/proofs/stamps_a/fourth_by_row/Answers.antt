@@ -1,0 +1,8 @@
+use Rattle.std.proofs.Common.{refl}
+use Rattle.mech_rows.specs.declared.kinds.Role.TheVariants.{A}
+use Rattle.trio_roles.proofs.Families.{stamps_names, stamps_row}
+use Rattle.trio_roles.proofs.Rest.{by_pass}
+use Rattle.trio_roles.proofs.stamps_a.fourth_by_row.Goals as goal
+
+pub returns : goal.returns
+returns g c = record { judged = by_pass _ g.S.Sealer.checks _ _ _ _ (stamps_row c.args.trio.now.family 3) refl (refl, tt) (stamps_names c.args.trio.now.family A c.args.trio.now.names) }

@@ -1,0 +1,9 @@
+pub mod Passes
+pub mod Rest
+pub mod Words
+pub mod Tickets
+pub mod StampsA
+pub mod StampsB
+pub mod NoncesA
+pub mod NoncesB
+pub mod TrioStates
