@@ -1,7 +1,9 @@
-ghost use Rattle.std.specs.Prelude.{◌≡◌, ◌≤◌, length, IfOk, OnOk};
+ghost use Rattle.std.specs.Option.{option_copied};
+ghost use Rattle.std.specs.Prelude.{◌≡◌, ◌≤◌, true, length, Some, is_some, IfOk, IfSome, OnOk};
 ghost use Rattle.term_values.specs.SameBytes.{same_bytes};
+ghost use Rattle.term_values.specs.Trees.{blob};
 ghost use Rattle.tagged_codec.specs.Grammar.{spelling};
-ghost use Rattle.seal_trait.specs.Items.{IsShort};
+ghost use Rattle.seal_trait.specs.Items.{IsItemOf, IsShort};
 ghost use Rattle.seal_etm.specs.Layout as spec;
 
 use crate::hmac::hmac;
@@ -153,13 +155,26 @@ impl Sealer for Etm {
         true
     }
 
+    /// The seal of a body: the blob of the iv, the ciphertext and the check value.
+    ///
+    /// # Errors
+    ///
+    /// Want of memory alone.
     fn seal(
         &self,
         alloc: Global,
         key: &Key,
         body: &Term,
         iv: Option<&Nonce>,
-    ) -> Result<Term, OutOfMemory> {
+    ) -> Result<Term, OutOfMemory>
+        requires short { IsShort body.now }
+        requires given { is_some iv ≡ true }
+        ensures bytes { IfOk result (λ item. IfSome (option_copied iv.entry) (λ n.
+            item ≡ blob (spec.seal_bytes key.now body.now n))) }
+        ensures opens { IfOk result (λ item. spec.opened key.now item ≡ Some body.now) }
+        ensures iv { IfOk result (λ item. spec.iv_of item ≡ option_copied iv.entry) }
+        ensures limits { IfOk result (λ item. IsItemOf body.now item) }
+    {
         let Some(iv) = iv else { unreachable!() };
         let bytes = seal_bytes(alloc, key, body, iv)?;
         Ok(Term::of(Form::Blob(Bytes::new(bytes))))
@@ -176,7 +191,17 @@ impl Sealer for Etm {
         decipher(alloc, key, bytes)
     }
 
-    fn check(&self, alloc: Global, key: &Key, body: &Term) -> Result<Term, OutOfMemory> {
+    /// The check of a body: the blob of its check bytes.
+    ///
+    /// # Errors
+    ///
+    /// Want of memory alone.
+    fn check(&self, alloc: Global, key: &Key, body: &Term) -> Result<Term, OutOfMemory>
+        requires short { IsShort body.now }
+        ensures bytes { IfOk result (λ item. item ≡ blob (spec.check_bytes key.now body.now)) }
+        ensures checks { IfOk result (λ item. spec.checked key.now body.now item ≡ true) }
+        ensures limits { IfOk result (λ item. IsItemOf body.now item) }
+    {
         let bytes = check_bytes(alloc, key, body)?;
         Ok(Term::of(Form::Blob(Bytes::new(Vec::from_slice(alloc, &bytes)?))))
     }

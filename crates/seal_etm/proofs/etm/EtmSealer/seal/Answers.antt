@@ -4,6 +4,9 @@ use Rattle.term_values.specs.Trees.{blob}
 use Rattle.seal_etm.proofs.Opens.{item_iv, item_limits, item_opens}
 use Rattle.seal_etm.proofs.etm.EtmSealer.seal.Goals as goal
 
+pub returns-clause-bytes : goal.returns-clause-bytes
+returns-clause-bytes c = rw (ap option_copied c.in-Some.is) (c.of.ensures.tree ∙ ap blob (c.new.ensures.value ∙ c.in_ok-bytes.ensures.bytes))
+
 pub returns-clause-opens : goal.returns-clause-opens
 returns-clause-opens c =
     let is = ap blob (c.new.ensures.value ∙ c.in_ok-bytes.ensures.bytes) in
