@@ -2,9 +2,12 @@ ghost use Rattle.std.specs.Prelude.{◌<◌, List, Option, ℕ};
 ghost use Rattle.agreement_laws.specs.Assembled.{OfEachIdealNetwork};
 ghost use Rattle.agreement_laws.specs.Configs.{Config, IsGoodLong};
 ghost use Rattle.agreement_laws.specs.Examples.{ShowsClaim, ShowsLosses, ShowsSecret};
-ghost use Rattle.agreement_laws.specs.Nodes.{AcceptsOnce, NowsRise, OfEachLegalLog, StampsRise, UsesOnce};
+ghost use Rattle.agreement_laws.specs.Nodes.{AcceptsOnce, NowsRise, OfEachLegalLog, StampsRise};
+ghost use Rattle.agreement_laws.specs.Nodes.{UsesOnce};
 ghost use Rattle.agreement_laws.specs.Replacement.{IsIdealFor, replaced_step};
-ghost use Rattle.agreement_laws.specs.Sound.{HasOnePartner, HasOrigins, HidesGoodParts, HidesParts, IsCleanBase, IsSound, PairsAreThere, RunsAreOwned, SecretsAreGood};
+ghost use Rattle.agreement_laws.specs.Sound.{HasOnePartner, HasOrigins, HidesGoodParts, HidesParts};
+ghost use Rattle.agreement_laws.specs.Sound.{IsCleanBase, IsSound, PairsAreThere, RunsAreOwned};
+ghost use Rattle.agreement_laws.specs.Sound.{SecretsAreGood};
 ghost use Rattle.agreement_laws.specs.Traces.{Happening};
 ghost use Rattle.agreement_laws.specs.Worlds.{Entry, HasLegalLog, InEachWorld, IsWorld, trace};
 ghost use Rattle.mech_rows.specs.Runs.{Keys, Run, Step};
@@ -79,7 +82,8 @@ pub fn worlds_are_clean_bases()
 
 /// After the replacement of a working sealing's items, a step over it is a step over symbolic sealing.
 pub fn replaced_steps_are_symbolic<S: Sealing>()
-    ensures symbolic { (f : Bytes → Option Tree) (keys : Keys) (step : Step) → IsIdealFor f step → IsStep S.opens keys step → IsStep symbolic keys (replaced_step f step) }
+    ensures symbolic { (f : Bytes → Option Tree) (keys : Keys) (step : Step) → IsIdealFor f step →
+        IsStep S.opens keys step → IsStep symbolic keys (replaced_step f step) }
 {}
 
 /// What several nodes did over a working sealing, which was ideal for it, on wires that are a network, is a world after the

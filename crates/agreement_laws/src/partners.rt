@@ -1,5 +1,6 @@
 ghost use Rattle.std.specs.Prelude.{◌≡◌, ◌&&◌, ◌↔◌, IsTrue};
-ghost use Rattle.agreement_laws.specs.Partners.{agrees_filled, alike_filled, first_where, is_peer, partner_of, same_names, same_noted, same_third};
+ghost use Rattle.agreement_laws.specs.Partners.{agrees_filled, alike_filled, first_where, is_peer};
+ghost use Rattle.agreement_laws.specs.Partners.{partner_of, same_names, same_noted, same_third};
 ghost use Rattle.mech_rows.specs.Facts.{peer_of, same_mech, same_role};
 ghost use Rattle.mech_rows.specs.Notes.{noted, tree_of_value};
 ghost use Rattle.term_values.specs.Trees as tree;
@@ -23,7 +24,8 @@ pub fn partner(history: &History, done: &Happened) -> Option<u32>
 }
 
 fn first_agreeing(runs: &[Happened], done: &Happened, slots: &[Option<Slot>]) -> Option<u32>
-    ensures first { result ≡ first_where (λ r. agrees_filled (peer_of done.now.head.role) slots.now r done.now) runs.now }
+    ensures first { result ≡ first_where (λ r.
+        agrees_filled (peer_of done.now.head.role) slots.now r done.now) runs.now }
 {
     for run in runs {
         if is_partner(run, done) && are_alike(&run.notes, &done.notes, slots) {
@@ -41,7 +43,8 @@ fn is_partner(run: &Happened, done: &Happened) -> bool
 }
 
 fn same_kind(run: &Happened, done: &Happened) -> bool
-    ensures test { result ≡ (same_mech run.now.head.mech done.now.head.mech && same_role run.now.head.role (peer_of done.now.head.role)) }
+    ensures test { result ≡ (same_mech run.now.head.mech done.now.head.mech
+        && same_role run.now.head.role (peer_of done.now.head.role)) }
 {
     run.head.mech == done.head.mech && run.head.role == peer(done.head.role)
 }

@@ -1,4 +1,6 @@
-ghost use Rattle.std.specs.Prelude.{◌≡◌, ◌↔◌, ◌++◌, ◌∷◌, [], IsTrue, IsSome, IfOk, IsOk, OnOk, OnErr, Option, None, Some, if◌then◌else◌, is_ok, map, List, take};
+ghost use Rattle.std.specs.Prelude.{◌≡◌, ◌↔◌, ◌++◌, ◌∷◌, [], IsTrue, IsSome, IfOk, IsOk, OnOk};
+ghost use Rattle.std.specs.Prelude.{OnErr, Option, None, Some, if◌then◌else◌, is_ok, map, List};
+ghost use Rattle.std.specs.Prelude.{take};
 ghost use Rattle.std.specs.Option.{option_to_list};
 ghost use Rattle.term_values.specs.Trees.{Among, Tree, Trees, IsItem, part as a_part, seal, tuple};
 ghost use Rattle.term_values.specs.declared.small.Key.{Key as AnyKey};
@@ -105,7 +107,8 @@ impl Knowledge {
     ///
     /// [`OutOfMemory`] for want of memory alone; then what was known stays, and no term is due.
     pub fn learn(&mut self, alloc: Global, term: &Term) -> Result<(), OutOfMemory>
-        ensures given { self.new.given ≡ (if is_ok result then self.old.given ++ term.now ∷ [] else self.old.given) }
+        ensures given { self.new.given ≡ (if is_ok result then self.old.given ++ term.now
+            ∷ [] else self.old.given) }
         ensures due { self.new.due ≡ None }
     {
         self.ready(alloc, term)?;
@@ -117,7 +120,8 @@ impl Knowledge {
     /// A term that is due does not count. Takes no memory, so the answer is never an `Err`.
     pub fn derives(&self, term: &Term) -> Result<bool, OutOfMemory>
         ensures answered { IsOk result }
-        ensures exact { IfOk result (λ derivable. IsTrue derivable ↔ Derivable self.now.given term.now) }
+        ensures exact { IfOk result (λ derivable. IsTrue derivable
+            ↔ Derivable self.now.given term.now) }
     {
         Ok(builds(&self.apart, self.settled, term))
     }
@@ -127,8 +131,10 @@ impl Knowledge {
         ensures differ { Differ result.now }
         ensures given { (t : Tree) → Among t self.now.given → Among t result.now }
         ensures derivable { (t : Tree) → Among t result.now → Derivable self.now.given t }
-        ensures items { (t : Tree) (ts : Trees) → Among (tuple ts) result.now → IsItem t ts → Among t result.now }
-        ensures bodies { (k : AnyKey) (t : Tree) → Among (seal k t) result.now → KeyDerivable self.now.given k → Among t result.now }
+        ensures items { (t : Tree) (ts : Trees) → Among (tuple ts) result.now → IsItem t ts →
+            Among t result.now }
+        ensures bodies { (k : AnyKey) (t : Tree) → Among (seal k t) result.now →
+            KeyDerivable self.now.given k → Among t result.now }
     {
         let (known, _) = self.apart.list().split_at(self.settled);
         known

@@ -1,4 +1,5 @@
-ghost use Rattle.std.specs.Prelude.{◌≡◌, ◌↔◌, ◌++◌, ◌∷◌, [], ℕ, ◌≤◌, ◌<◌, IsTrue, IfOk, IfSome, None, OnOk, true, if◌then◌else◌, is_ok, length, take, drop};
+ghost use Rattle.std.specs.Prelude.{◌≡◌, ◌↔◌, ◌++◌, ◌∷◌, [], ℕ, ◌≤◌, ◌<◌, IsTrue, IfOk, IfSome};
+ghost use Rattle.std.specs.Prelude.{None, OnOk, true, if◌then◌else◌, is_ok, length, take, drop};
 ghost use Rattle.term_values.specs.Trees.{Among, Bytes as SomeBytes, Tree, seal};
 ghost use Rattle.term_values.specs.declared.small.Key.{Key as AnyKey};
 ghost use Rattle.attacker_model.specs.Digests.{HasPlace, StandsAt, digest_bytes, digest_term};
@@ -132,7 +133,9 @@ impl Apart {
     pub(crate) fn next_under(&self, part: &Part, from: usize) -> Option<usize>
         ensures within { IfSome result (λ place. place < length self.now) }
         ensures from { IfSome result (λ place. from ≤ place) }
-        ensures passed { IfSome result (λ place. opened_by self.now part.now (drop from self.now) ≡ opened_by self.now part.now (drop place self.now)) }
+        ensures passed { IfSome result (λ place.
+            opened_by self.now part.now (drop from self.now) ≡ opened_by self.now part.now
+            (drop place self.now)) }
         ensures none { result ≡ None → opened_by self.now part.now (drop from self.now) ≡ [] }
     {
         match next_place(&self.locks, lock_of(part), from) {
@@ -146,7 +149,8 @@ impl Apart {
 #[tactic(auto, using(crate::proofs::KnowledgeLists::among_at))]
 fn is_found(places: &Index, terms: &[Term], wanted: &Term) -> bool
     ensures among { IsTrue result → Among wanted.now terms.now }
-    ensures found { (q : ℕ) → StandsAt wanted.now terms.now q → HasPlace places.now (digest_term 1 wanted.now) q → IsTrue result }
+    ensures found { (q : ℕ) → StandsAt wanted.now terms.now q →
+        HasPlace places.now (digest_term 1 wanted.now) q → IsTrue result }
 {
     let number = place_of(wanted);
     let mut from = 0;
@@ -199,7 +203,8 @@ fn leave_all(places: &mut Index, locks: &mut Index, terms: &[Term], count: usize
 /// Adds an entry for each part of the key.
 fn lock(locks: &mut Index, key: &Key, place: usize) -> Result<(), OutOfMemory>
     ensures kept { (n q : ℕ) → HasPlace locks.old n q → HasPlace locks.new n q }
-    ensures entered { OnOk result ((p : SomeBytes) → has_part key.now p ≡ true → HasPlace locks.new (digest_bytes 1 p) place) }
+    ensures entered { OnOk result ((p : SomeBytes) → has_part key.now p ≡ true →
+        HasPlace locks.new (digest_bytes 1 p) place) }
 {
     match key {
         Key::One(part) => enter(locks, lock_of(part), place),
@@ -213,7 +218,8 @@ fn lock(locks: &mut Index, key: &Key, place: usize) -> Result<(), OutOfMemory>
 /// Adds an entry for each part of the key, where the term is a seal.
 fn lock_seal(locks: &mut Index, term: &Term, place: usize) -> Result<(), OutOfMemory>
     ensures kept { (n q : ℕ) → HasPlace locks.old n q → HasPlace locks.new n q }
-    ensures locked { OnOk result ((k : AnyKey) (u : Tree) (p : SomeBytes) → term.now ≡ seal k u → has_part k p ≡ true → HasPlace locks.new (digest_bytes 1 p) place) }
+    ensures locked { OnOk result ((k : AnyKey) (u : Tree) (p : SomeBytes) → term.now ≡ seal k u →
+        has_part k p ≡ true → HasPlace locks.new (digest_bytes 1 p) place) }
 {
     match term.form() {
         Form::Seal(key, _) => lock(locks, key, place),
@@ -231,7 +237,8 @@ fn index(
     ensures places { (n q : ℕ) → HasPlace places.old n q → HasPlace places.new n q }
     ensures locks { (n q : ℕ) → HasPlace locks.old n q → HasPlace locks.new n q }
     ensures found { OnOk result (HasPlace places.new (digest_term 1 term.now) place) }
-    ensures locked { OnOk result ((k : AnyKey) (u : Tree) (p : SomeBytes) → term.now ≡ seal k u → has_part k p ≡ true → HasPlace locks.new (digest_bytes 1 p) place) }
+    ensures locked { OnOk result ((k : AnyKey) (u : Tree) (p : SomeBytes) → term.now ≡ seal k u →
+        has_part k p ≡ true → HasPlace locks.new (digest_bytes 1 p) place) }
 {
     lock_seal(locks, term, place)?;
     enter(places, place_of(term), place)

@@ -26,7 +26,8 @@ pub(crate) fn leave(index: &mut Index, number: u128, place: usize)
 /// The first place of a number, from this one on.
 pub(crate) fn next_place(index: &Index, number: u128, from: usize) -> Option<usize>
     ensures from { IfSome result (λ place. from ≤ place) }
-    ensures first { (q : ℕ) → from ≤ q → HasPlace index.now number q → IfSome result (λ place. place ≤ q) }
+    ensures first { (q : ℕ) → from ≤ q → HasPlace index.now number q →
+        IfSome result (λ place. place ≤ q) }
     ensures none { result ≡ None → (q : ℕ) → from ≤ q → HasPlace index.now number q → ⊥ }
 {
     match index.range((number, from)..).next() {

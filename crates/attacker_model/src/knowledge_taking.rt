@@ -18,7 +18,8 @@ fn is_same(first: &Part, second: &Part) -> bool
 
 /// Whether the key has this part and is known with it.
 fn is_opened_by(known: &Apart, part: &Part, key: &Key) -> bool
-    ensures opened { result ≡ (has_part key.now part.now && key_known (a_part part.now ∷ known.now) key.now) }
+    ensures opened { result ≡ (has_part key.now part.now && key_known
+        (a_part part.now ∷ known.now) key.now) }
 {
     match key {
         Key::One(only) => is_same(only, part),
@@ -40,7 +41,8 @@ fn wait_for_body(
     term: &Term,
     waiting: &mut Vec<Term>,
 ) -> Result<(), OutOfMemory>
-    ensures waits { OnOk result (waiting.new.items ≡ waiting.old.items ++ opened_by known.now part.now (term.now ∷ [])) }
+    ensures waits { OnOk result (waiting.new.items
+        ≡ waiting.old.items ++ opened_by known.now part.now (term.now ∷ [])) }
 {
     if let Form::Seal(key, body) = term.form() {
         if is_opened_by(known, part, key) {
@@ -58,7 +60,8 @@ fn wait_for_opened(
     part: &Part,
     waiting: &mut Vec<Term>,
 ) -> Result<(), OutOfMemory>
-    ensures waits { OnOk result (waiting.new.items ≡ waiting.old.items ++ opened_by known.now part.now known.now) }
+    ensures waits { OnOk result (waiting.new.items
+        ≡ waiting.old.items ++ opened_by known.now part.now known.now) }
 {
     let mut from = 0;
     while let Some(place) = known.next_under(part, from) {
@@ -86,7 +89,8 @@ fn wait_for_what_comes(
     term: &Term,
     waiting: &mut Vec<Term>,
 ) -> Result<(), OutOfMemory>
-    ensures waits { OnOk result (waiting.new.items ≡ waiting.old.items ++ comes_out known.now term.now) }
+    ensures waits { OnOk result (waiting.new.items
+        ≡ waiting.old.items ++ comes_out known.now term.now) }
 {
     match term.form() {
         Form::Tuple(items) => wait_for_items(alloc, items.list(), waiting),
@@ -108,7 +112,8 @@ fn look_at(
     next: Term,
     waiting: &mut Vec<Term>,
 ) -> Result<(), OutOfMemory>
-    ensures looked { OnOk result (IsLookedAt known.old waiting.old.items next known.new waiting.new.items) }
+    ensures looked { OnOk result (IsLookedAt known.old waiting.old.items next known.new
+        waiting.new.items) }
     ensures failed { OnErr result (known.new ≡ known.old) }
 {
     if known.knows(known.len(), &next) {

@@ -7,13 +7,15 @@ ghost use Rattle.term_values.specs.Trees.{Among, Tree};
 /// What is derivable from known terms is derivable from more.
 #[tactic(auto, using(crate::proofs::Derivations::more_known))]
 pub fn derivation_is_monotone()
-    ensures more { (K L : List Tree) → ((u : Tree) → Among u K → Among u L) → (t : Tree) → Derivable K t → Derivable L t }
+    ensures more { (K L : List Tree) → ((u : Tree) → Among u K → Among u L) → (t : Tree) →
+        Derivable K t → Derivable L t }
 {}
 
 /// The cut law: a derivable term teaches nothing.
 #[tactic(auto, using(crate::proofs::Derivations::cut))]
 pub fn cut_law()
-    ensures cut { (K : List Tree) (t u : Tree) → Derivable K t → Derivable (t ∷ K) u → Derivable K u }
+    ensures cut { (K : List Tree) (t u : Tree) → Derivable K t → Derivable (t ∷ K) u →
+        Derivable K u }
 {}
 
 /// From known terms that are taken apart as far as they go, the derivable terms are those that are built.

@@ -38,7 +38,8 @@ pub const NO_MEMORY: u8 = 7;
 fn write_text<O: Sink>(out: &mut O, text: &[u8]) -> u8
     ensures statuses { (result ≡ 0) ⊎ ((result ≡ 4) ⊎ (result ≡ 7)) }
     ensures whole { result ≡ 0 → Appends (O.put_so_far out.old) (O.put_so_far out.new) text.now }
-    ensures front { result ≢ 0 → (n : ℕ) × Appends (O.put_so_far out.old) (O.put_so_far out.new) (take n text.now) }
+    ensures front { result ≢ 0 → (n : ℕ) × Appends (O.put_so_far out.old) (O.put_so_far out.new)
+        (take n text.now) }
     ensures cause { result ≡ 4 → Rose (O.fault_count out.old) (O.fault_count out.new) }
 {
     match out.put(text) {
@@ -52,8 +53,10 @@ fn write_text<O: Sink>(out: &mut O, text: &[u8]) -> u8
 fn write_walk<O: Sink>(alloc: Global, walk: &Walk, out: &mut O) -> u8
     requires { IsPlan walk.now }
     ensures statuses { (result ≡ 0) ⊎ ((result ≡ 4) ⊎ (result ≡ 7)) }
-    ensures whole { result ≡ 0 → Appends (O.put_so_far out.old) (O.put_so_far out.new) (walk_output walk.now) }
-    ensures front { result ≢ 0 → (n : ℕ) × Appends (O.put_so_far out.old) (O.put_so_far out.new) (take n (walk_output walk.now)) }
+    ensures whole { result ≡ 0 → Appends (O.put_so_far out.old) (O.put_so_far out.new)
+        (walk_output walk.now) }
+    ensures front { result ≢ 0 → (n : ℕ) × Appends (O.put_so_far out.old) (O.put_so_far out.new)
+        (take n (walk_output walk.now)) }
     ensures cause { result ≡ 4 → Rose (O.fault_count out.old) (O.fault_count out.new) }
 {
     match walk_text(alloc, walk) {
@@ -95,11 +98,16 @@ pub fn run_offline<I: Source, O: Sink>(
         → (result ≡ 7) ⊎ ((result ≡ status) × Appends (O.put_so_far out.old) (O.put_so_far out.new) text) }
 
     // The world that a script leads to is sound, however much of it was printed.
-    ensures sound { (bytes : List ℕ) (w : WorldView) → IsReplay (word_lists words.now.items) → IsTold (I.left input.old) bytes → IsWorldOf bytes w → IsSound w.config (trace (entries w.acts)) }
+    ensures sound { (bytes : List ℕ) (w : WorldView) → IsReplay (word_lists words.now.items) →
+        IsTold (I.left input.old) bytes → IsWorldOf bytes w →
+        IsSound w.config (trace (entries w.acts)) }
 
     // Of a script that is too long nothing is played.
-    ensures over { (bytes : List ℕ) → IsReplay (word_lists words.now.items) → I.left input.old ≡ Some bytes → is_over bytes ≡ true → ((result ≡ 3) ⊎ (result ≡ 6) ⊎ (result ≡ 7)) × (out.new ≡ out.old) }
-    ensures at_end { IsReplay (word_lists words.now.items) → (result ≡ 0) ⊎ (result ≡ 5) → IsAtEnd (I.left input.new) }
+    ensures over { (bytes : List ℕ) → IsReplay (word_lists words.now.items) →
+        I.left input.old ≡ Some bytes → is_over bytes ≡ true →
+        ((result ≡ 3) ⊎ (result ≡ 6) ⊎ (result ≡ 7)) × (out.new ≡ out.old) }
+    ensures at_end { IsReplay (word_lists words.now.items) → (result ≡ 0) ⊎ (result ≡ 5) →
+        IsAtEnd (I.left input.new) }
     ensures unread { (IsReplay (word_lists words.now.items) → ⊥) → input.new ≡ input.old }
 
     ensures read_failed { result ≡ 3 → Rose (I.fault_count input.old) (I.fault_count input.new) }
@@ -114,5 +122,6 @@ pub fn run_offline<I: Source, O: Sink>(
 
 /// Words are those of one walk at most, so the output is one.
 pub fn words_tell_one_walk()
-    ensures one { (words : List (List ℕ)) → (v : Plan) → (w : Plan) → IsWalk words v → IsWalk words w → v ≡ w }
+    ensures one { (words : List (List ℕ)) → (v : Plan) → (w : Plan) → IsWalk words v →
+        IsWalk words w → v ≡ w }
 {}

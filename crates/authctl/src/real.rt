@@ -54,8 +54,10 @@ impl<W: Write> Output<W> {
 
 /// Writes the whole piece; a write that takes nothing, or an error, ends it.
 pub(crate) fn write_whole<W: Write>(writer: &mut W, piece: &[u8]) -> bool
-    ensures whole { IsTrue result → Appends (W.contents writer.old) (W.contents writer.new) piece.now }
-    ensures front { IsTrue (not result) → (n : ℕ) × Appends (W.contents writer.old) (W.contents writer.new) (take n piece.now) }
+    ensures whole { IsTrue result → Appends (W.contents writer.old)
+        (W.contents writer.new) piece.now }
+    ensures front { IsTrue (not result) → (n : ℕ)
+        × Appends (W.contents writer.old) (W.contents writer.new) (take n piece.now) }
 {
     let mut written = 0;
     while written < piece.len() {
@@ -86,7 +88,8 @@ impl<W: Write> Sink for Output<W> {
     ///
     /// [`PutFault::Failed`] where a write failed or took nothing; a front of the piece was appended.
     fn put(&mut self, piece: &[u8]) -> Result<(), PutFault>
-        ensures bytes { PutAppends (W.contents self.old.writer) (W.contents self.new.writer) result piece.now }
+        ensures bytes { PutAppends (W.contents self.old.writer)
+            (W.contents self.new.writer) result piece.now }
         ensures cause { HasPutCause self.old.faults self.new.faults result }
         ensures never { result ≢ Err PutFault.Memory }
     {

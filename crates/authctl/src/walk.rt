@@ -4,8 +4,11 @@ ghost use Rattle.term_values.specs.Trees as tree;
 ghost use Rattle.tagged_codec.specs.Grammar.{IsInLimits, spelling};
 ghost use Rattle.script_text.specs.Lines.{is_offered};
 ghost use Rattle.authctl.specs.Words.{IsPlan};
-ghost use Rattle.authctl.specs.Messages.{AreInLimits, body_of, challenge_of, checked_of, fresh_tree, is_checking, is_sealing, kind_bytes, sealed_of, tag_of};
-ghost use Rattle.authctl.specs.Walks.{lines_before, message_line, passes_line, walk_messages, walk_output};
+ghost use Rattle.authctl.specs.Messages.{AreInLimits, body_of, challenge_of, checked_of};
+ghost use Rattle.authctl.specs.Messages.{fresh_tree, is_checking, is_sealing, kind_bytes};
+ghost use Rattle.authctl.specs.Messages.{sealed_of, tag_of};
+ghost use Rattle.authctl.specs.Walks.{lines_before, message_line, passes_line, walk_messages};
+ghost use Rattle.authctl.specs.Walks.{walk_output};
 
 use crate::words::Walk;
 use mech_rows::Mech;
@@ -29,7 +32,8 @@ const WALK_TIME: u64 = 1000;
 
 /// The counted nonce of a number.
 fn nonce_term(number: u8) -> Term
-    ensures { result ≡ tree.nonce (0xd0 ∷ 0 ∷ 0 ∷ 0 ∷ 0 ∷ 0 ∷ 0 ∷ 0 ∷ 0 ∷ 0 ∷ 0 ∷ 0 ∷ 0 ∷ 0 ∷ 0 ∷ number ∷ []) }
+    ensures { result ≡ tree.nonce (0xd0 ∷ 0 ∷ 0 ∷ 0 ∷ 0 ∷ 0 ∷ 0 ∷ 0 ∷ 0 ∷ 0 ∷ 0 ∷ 0 ∷ 0 ∷ 0 ∷ 0
+        ∷ number ∷ []) }
 {
     Term::of(Form::Nonce(Nonce([0xd0, 0, 0, 0, 0, 0, 0, 0, 0, 0, 0, 0, 0, 0, 0, number])))
 }
@@ -270,7 +274,8 @@ fn put_message(
     message: &Term,
 ) -> Result<(), EncodeFault>
     requires { IsInLimits message.now }
-    ensures put { OnOk result (text.new.items ≡ text.old.items ++ message_line number (spelling message.now)) }
+    ensures put { OnOk result (text.new.items ≡ text.old.items ++ message_line number
+        (spelling message.now)) }
     ensures memory { result ≢ Err EncodeFault.TooLarge }
 {
     let bytes = encode(alloc, message)?;
@@ -293,7 +298,8 @@ fn put_passes(alloc: Global, text: &mut Vec<u8>, count: usize) -> Result<(), Enc
 /// The lines of the messages, and their number.
 fn lines(alloc: Global, messages: &[Term]) -> Result<Vec<u8>, EncodeFault>
     requires { AreInLimits messages.now }
-    ensures output { IfOk result (λ v. v.items ≡ lines_before (passes_line (length messages.now)) 1 messages.now) }
+    ensures output { IfOk result (λ v. v.items ≡ lines_before
+        (passes_line (length messages.now)) 1 messages.now) }
     ensures memory { result ≢ Err EncodeFault.TooLarge }
 {
     let mut text = Vec::new(alloc);

@@ -1,4 +1,5 @@
-ghost use Rattle.std.specs.Prelude.{◌≡◌, ◌≢◌, ◌≤◌, ℕ, List, get_or, length, IsNone, IfSome, IsTrue, ◌↔◌, [], ◌∷◌};
+ghost use Rattle.std.specs.Prelude.{◌≡◌, ◌≢◌, ◌≤◌, ℕ, List, get_or, length, IsNone, IfSome, IsTrue};
+ghost use Rattle.std.specs.Prelude.{◌↔◌, [], ◌∷◌};
 ghost use Rattle.std.specs.Fmt.{decimal};
 ghost use Rattle.hex.specs.Hex.{IsBytes, encode_lower};
 ghost use Rattle.script_text.specs.LineReading.{mech_in};
@@ -71,7 +72,8 @@ fn elements_are_bytes(bytes: &[u8])
 fn read_bytes(word: &[u8]) -> Option<[u8; 32]>
     ensures bytes { IfSome result IsBytes }
     ensures some { IfSome result (λ p. word.now ≡ encode_lower p) }
-    ensures none { IsNone result → (p : List ℕ) → length p ≡ 32 → IsBytes p → word.now ≢ encode_lower p }
+    ensures none { IsNone result → (p : List ℕ) → length p ≡ 32 → IsBytes p →
+        word.now ≢ encode_lower p }
 {
     let mut bytes = [0; 32];
     hex::decode_to_slice(word, &mut bytes).ok()?;
@@ -132,8 +134,10 @@ fn read_mech(word: &[u8]) -> Option<Mech>
 /// The walk that five words ask for.
 fn read_five(command: &[u8], mech: &[u8], a: &[u8], b: &[u8], part: &[u8]) -> Option<Walk>
     ensures plan { IfSome result IsPlan }
-    ensures some { IfSome result (λ w. command.now ∷ mech.now ∷ a.now ∷ b.now ∷ part.now ∷ [] ≡ walk_words w) }
-    ensures none { IsNone result → (w : Walk) → IsPlan w → command.now ∷ mech.now ∷ a.now ∷ b.now ∷ part.now ∷ [] ≢ walk_words w }
+    ensures some { IfSome result (λ w. command.now ∷ mech.now ∷ a.now ∷ b.now ∷ part.now ∷ []
+        ≡ walk_words w) }
+    ensures none { IsNone result → (w : Walk) → IsPlan w →
+        command.now ∷ mech.now ∷ a.now ∷ b.now ∷ part.now ∷ [] ≢ walk_words w }
 {
     if command != b"walk".as_slice() {
         return None;

@@ -60,9 +60,11 @@ impl Counted {
 
     /// The number of this draw.
     fn next(&mut self) -> Result<u64, Failed>
-        ensures drawn { IfOk result (λ k. (k ≡ self.old.place) × (self.new ≡ record self.old { place = self.old.place + 1 })) }
+        ensures drawn { IfOk result (λ k. (k ≡ self.old.place)
+            × (self.new ≡ record self.old { place = self.old.place + 1 })) }
         ensures spent { IsErr result ↔ (self.old.place ≡ 2 ^ 64 - 1) }
-        ensures stays { OnErr result (self.new ≡ record self.old { faults = one_more self.old.faults }) }
+        ensures stays { OnErr result (self.new
+            ≡ record self.old { faults = one_more self.old.faults }) }
         ensures quiet { OnOk result (failed_draws self.new ≡ failed_draws self.old) }
         ensures cause { HasCause self.old.faults self.new.faults result }
     {
@@ -119,9 +121,11 @@ impl Draws for Counted {
     ///
     /// [`Failed`] exactly where the counter is 18,446,744,073,709,551,615; it stays, and the count of faults rises.
     fn nonce(&mut self) -> Result<Nonce, Failed>
-        ensures drawn { IfOk result (λ nonce. (nonce ≡ counted_value nonce_draw self.old.place) × (self.new ≡ record self.old { place = self.old.place + 1 })) }
+        ensures drawn { IfOk result (λ nonce. (nonce ≡ counted_value nonce_draw self.old.place)
+            × (self.new ≡ record self.old { place = self.old.place + 1 })) }
         ensures spent { IsErr result ↔ (self.old.place ≡ 2 ^ 64 - 1) }
-        ensures stays { OnErr result (self.new ≡ record self.old { faults = one_more self.old.faults }) }
+        ensures stays { OnErr result (self.new
+            ≡ record self.old { faults = one_more self.old.faults }) }
         ensures quiet { OnOk result (failed_draws self.new ≡ failed_draws self.old) }
         ensures cause { HasCause self.old.faults self.new.faults result }
     {
@@ -135,9 +139,11 @@ impl Draws for Counted {
     ///
     /// [`Failed`] exactly where the counter is 18,446,744,073,709,551,615; it stays, and the count of faults rises.
     fn part(&mut self) -> Result<Part, Failed>
-        ensures drawn { IfOk result (λ part. (part ≡ counted_value part_draw self.old.place) × (self.new ≡ record self.old { place = self.old.place + 1 })) }
+        ensures drawn { IfOk result (λ part. (part ≡ counted_value part_draw self.old.place)
+            × (self.new ≡ record self.old { place = self.old.place + 1 })) }
         ensures spent { IsErr result ↔ (self.old.place ≡ 2 ^ 64 - 1) }
-        ensures stays { OnErr result (self.new ≡ record self.old { faults = one_more self.old.faults }) }
+        ensures stays { OnErr result (self.new
+            ≡ record self.old { faults = one_more self.old.faults }) }
         ensures quiet { OnOk result (failed_draws self.new ≡ failed_draws self.old) }
         ensures cause { HasCause self.old.faults self.new.faults result }
     {

@@ -45,8 +45,10 @@ impl Issuer {
     ///
     /// [`StampsSpent`] exactly where the last number is 18,446,744,073,709,551,615; nothing changes.
     pub fn issue(&mut self, now: u64) -> Result<Stamp, StampsSpent>
-        ensures stamp { IfOk result (λ stamp. next_stamp self.old.kind self.old.last now ≡ Some stamp) }
-        ensures last { IfOk result (λ stamp. self.new ≡ record self.old { last = number_of stamp }) }
+        ensures stamp { IfOk result (λ stamp.
+            next_stamp self.old.kind self.old.last now ≡ Some stamp) }
+        ensures last { IfOk result (λ stamp.
+            self.new ≡ record self.old { last = number_of stamp }) }
         ensures rises { IfOk result (λ stamp. self.old.last < number_of stamp) }
         ensures spent { IsErr result ↔ (self.old.last ≡ 2 ^ 64 - 1) }
         ensures none { OnErr result (next_stamp self.old.kind self.old.last now ≡ None) }

@@ -1,6 +1,7 @@
 ghost use Rattle.std.specs.Prelude.{◌≡◌, ◌+◌, ◌↔◌, IsTrue, is_some, length};
 ghost use Rattle.term_values.specs.Trees.{item_of, tag as tag_term};
-ghost use Rattle.mech_rows.specs.Bodies.{HasShape, IsPlaceOrFault, TheseNames, count_in, name_at as name_of, names_in};
+ghost use Rattle.mech_rows.specs.Bodies.{HasShape, IsPlaceOrFault, TheseNames, count_in};
+ghost use Rattle.mech_rows.specs.Bodies.{name_at as name_of, names_in};
 
 use crate::head::RunHead;
 use crate::part_fault::PartFault;

@@ -1,6 +1,10 @@
 ghost use Rattle.std.specs.Prelude.{◌≡◌, false, length, true};
-ghost use Rattle.mech_rows.specs.Rows.{C, S, family as family_of, forwarded as forwarded_of, number as number_of, pass_from, row_of, tag_of as tag_for, third_by_nonces as nonces_of, third_by_stamps as stamps_of, unread as unread_of};
-ghost use Rattle.mech_rows.specs.Table.{filled_cover, filled_pass, filled_passes, filled_row, fill, pass_with};
+ghost use Rattle.mech_rows.specs.Rows.{C, S, family as family_of, forwarded as forwarded_of};
+ghost use Rattle.mech_rows.specs.Rows.{number as number_of, pass_from, row_of, tag_of as tag_for};
+ghost use Rattle.mech_rows.specs.Rows.{third_by_nonces as nonces_of, third_by_stamps as stamps_of};
+ghost use Rattle.mech_rows.specs.Rows.{unread as unread_of};
+ghost use Rattle.mech_rows.specs.Table.{filled_cover, filled_pass, filled_passes, filled_row, fill};
+ghost use Rattle.mech_rows.specs.Table.{pass_with};
 
 use crate::filled::{five, four, two};
 use crate::kinds::Clear::{NameOfB, Slot as Shown};

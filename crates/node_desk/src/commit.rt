@@ -1,4 +1,5 @@
-ghost use Rattle.std.specs.Prelude.{◌≡◌, ◌+◌, ◌-◌, ◌<◌, ◌≤◌, ◌++◌, None, Some, List, map, if◌then◌else◌, max, length, IfOk, IfErr, OnOk};
+ghost use Rattle.std.specs.Prelude.{◌≡◌, ◌+◌, ◌-◌, ◌<◌, ◌≤◌, ◌++◌, None, Some, List, map};
+ghost use Rattle.std.specs.Prelude.{if◌then◌else◌, max, length, IfOk, IfErr, OnOk};
 ghost use Rattle.agreement_laws.specs.Nodes.{accepted_of, is_going as goes_on};
 ghost use Rattle.replay_store.specs.Stamps.{Accepted};
 ghost use Rattle.node_desk.specs.Helds.{table_at};
@@ -36,8 +37,13 @@ pub(crate) fn check_commit<T: Store>(
     ensures place { IfOk result (λ place. place + 1 ≡ run) }
     ensures within { IfOk result (λ place. place < length run_slots.now) }
     ensures current { OnOk result (IsCurrent (table_at log.now run_slots.now run) step.now) }
-    ensures fit { OnOk result ((accepted : List Accepted) → T.stands_for store.now accepted → stamps_refusal (T.window store.now) (max (T.now store.now) clock) accepted kind step.now.got ≡ None) }
-    ensures refused { IfErr result (λ e. (accepted : List Accepted) → T.stands_for store.now accepted → CommitAnswer (table_at log.now run_slots.now run) step.now (stamps_refusal (T.window store.now) (max (T.now store.now) clock) accepted kind step.now.got) (Some e)) }
+    ensures fit { OnOk result ((accepted : List Accepted) → T.stands_for store.now accepted →
+        stamps_refusal (T.window store.now) (max (T.now store.now) clock) accepted kind step.now.got
+        ≡ None) }
+    ensures refused { IfErr result (λ e. (accepted : List Accepted) →
+        T.stands_for store.now accepted → CommitAnswer (table_at log.now run_slots.now run) step.now
+        (stamps_refusal (T.window store.now)
+        (max (T.now store.now) clock) accepted kind step.now.got) (Some e)) }
 {
     let place = find_current(run_slots, log, run, step)?;
     match judge_all(store, clock, kind, &step.got) {
@@ -67,7 +73,8 @@ pub(crate) fn is_going(step: &Step<Live>) -> bool
 #[tactic(auto, using(crate::proofs::Bounds::got_bound))]
 pub(crate) fn record_step<T: Store>(store: &mut T, kind: StampKind, step: &Step<Live>)
     requires room { 2 ≤ T.spare store.old }
-    ensures added { (accepted : List Accepted) → T.stands_for store.old accepted → T.stands_for store.new (accepted ++ map accepted_of step.now.got) }
+    ensures added { (accepted : List Accepted) → T.stands_for store.old accepted →
+        T.stands_for store.new (accepted ++ map accepted_of step.now.got) }
     ensures room { T.spare store.old ≤ T.spare store.new + 2 }
     ensures window { T.window store.new ≡ T.window store.old }
     ensures moment { T.now store.new ≡ T.now store.old }

@@ -1,4 +1,5 @@
-ghost use Rattle.std.specs.Prelude.{true, false, ◌≡◌, ◌≢◌, ◌<◌, ◌≤◌, None, Some, max, IfOk, IfErr, OnOk, OnErr};
+ghost use Rattle.std.specs.Prelude.{true, false, ◌≡◌, ◌≢◌, ◌<◌, ◌≤◌, None, Some, max, IfOk, IfErr};
+ghost use Rattle.std.specs.Prelude.{OnOk, OnErr};
 ghost use Rattle.outside.specs.Causes.{Rose};
 ghost use Rattle.mech_rows.specs.Rings.{keys_in};
 ghost use Rattle.mech_rows.specs.declared.refusal.Refusal.TheVariants.{Memory, DrawFault};
@@ -6,8 +7,12 @@ ghost use Rattle.text_hooks.specs.Rules.{allowed};
 ghost use Rattle.node_desk.specs.declared.event.Event.TheVariants.{Commit};
 ghost use Rattle.node_desk.specs.Events.{log_of};
 ghost use Rattle.node_desk.specs.Refusals.{first_refusal, run_refusal};
-ghost use Rattle.node_desk.specs.Desks.{node_at, run_at, Entered, Untouched, CommitAnswers, IsMadeWith, IsUnused};
-ghost use Rattle.node_desk.specs.Deliveries.{MayHaveIssued, HasIssued, HasIssuedFirst, IssuedAtMost, IssuedAtMostFirst, IsRefused, IsFirstRefused, IsStampRefused, HasMovedDraws, HasMovedDrawsFirst, Delivered, Started, is_of_stamp};
+ghost use Rattle.node_desk.specs.Desks.{node_at, run_at, Entered, Untouched, CommitAnswers};
+ghost use Rattle.node_desk.specs.Desks.{IsMadeWith, IsUnused};
+ghost use Rattle.node_desk.specs.Deliveries.{MayHaveIssued, HasIssued, HasIssuedFirst};
+ghost use Rattle.node_desk.specs.Deliveries.{IssuedAtMost, IssuedAtMostFirst, IsRefused};
+ghost use Rattle.node_desk.specs.Deliveries.{IsFirstRefused, IsStampRefused, HasMovedDraws};
+ghost use Rattle.node_desk.specs.Deliveries.{HasMovedDrawsFirst, Delivered, Started, is_of_stamp};
 
 use crate::commit::given_up;
 use crate::desk::Desk;
@@ -60,10 +65,12 @@ fn enter<T: Store>(
 ) -> Result<Option<Term>, Refusal>
     requires made { IsMadeWith (keys_in desk.old.ring) step }
     requires issued { IsUnused step.issued (log_of desk.old.log) }
-    ensures ok { OnOk result (Entered desk.old desk.new (Commit run (max (node_at desk.old).now clock) step)) }
+    ensures ok { OnOk result (Entered desk.old desk.new
+        (Commit run (max (node_at desk.old).now clock) step)) }
     ensures reply { IfOk result (λ reply. reply ≡ step.reply) }
     ensures fit { OnOk result (CommitAnswers desk.old run step clock None) }
-    ensures refused { IfErr result (λ e. e ≢ Memory → CommitAnswers desk.old run step clock (Some e)) }
+    ensures refused { IfErr result (λ e. e ≢ Memory →
+        CommitAnswers desk.old run step clock (Some e)) }
     ensures err { OnErr result (Untouched desk.old desk.new) }
 {
     let reply = match made_ready(alloc, desk, &step) {
@@ -100,19 +107,35 @@ pub fn deliver<T: Store, S: Sealer, D: Draws>(
     bytes: &[u8],
     clock: u64,
 ) -> Result<Option<Term>, Refusal>
-    ensures ok { IfOk result (λ reply. Delivered S.opens S.checks (allowed hook.now.rules.items) S.iv_of (S.wants_iv sealer.now) (D.told draws.old) (D.told draws.new) desk.old desk.new run bytes.now clock reply) }
-    ensures refused { IfErr result (λ e. e ≢ Memory → IsRefused S.opens S.checks (allowed hook.now.rules.items) desk.old run bytes.now clock (Rose (D.fault_count draws.old) (D.fault_count draws.new)) e) }
+    ensures ok { IfOk result (λ reply. Delivered S.opens S.checks
+        (allowed hook.now.rules.items) S.iv_of (S.wants_iv sealer.now) (D.told draws.old)
+        (D.told draws.new) desk.old desk.new run bytes.now clock reply) }
+    ensures refused { IfErr result (λ e. e ≢ Memory →
+        IsRefused S.opens S.checks (allowed hook.now.rules.items) desk.old run bytes.now clock
+        (Rose (D.fault_count draws.old) (D.fault_count draws.new)) e) }
     ensures err { OnErr result (MayHaveIssued desk.old desk.new clock) }
-    ensures stays { IfErr result (λ e. e ≢ Memory → e ≢ DrawFault → is_of_stamp e ≡ false → Untouched desk.old desk.new) }
-    ensures undrawn { IfErr result (λ e. e ≢ Memory → e ≢ DrawFault → is_of_stamp e ≡ false → draws.new ≡ draws.old) }
-    ensures faulted { IfErr result (λ e. e ≡ DrawFault → HasIssued S.opens S.checks (allowed hook.now.rules.items) desk.old desk.new run bytes.now clock) }
-    ensures judged { IfErr result (λ e. is_of_stamp e ≡ true → IsStampRefused S.opens S.checks (allowed hook.now.rules.items) S.iv_of (S.wants_iv sealer.now) (D.told draws.old) (D.told draws.new) desk.old desk.new run bytes.now clock e) }
-    ensures moved { HasMovedDraws S.opens S.checks (allowed hook.now.rules.items) desk.old run bytes.now (D.told draws.old) (D.told draws.new) }
+    ensures stays { IfErr result (λ e. e ≢ Memory → e ≢ DrawFault → is_of_stamp e ≡ false →
+        Untouched desk.old desk.new) }
+    ensures undrawn { IfErr result (λ e. e ≢ Memory → e ≢ DrawFault → is_of_stamp e ≡ false →
+        draws.new ≡ draws.old) }
+    ensures faulted { IfErr result (λ e. e ≡ DrawFault →
+        HasIssued S.opens S.checks (allowed hook.now.rules.items) desk.old desk.new run bytes.now
+        clock) }
+    ensures judged { IfErr result (λ e. is_of_stamp e ≡ true →
+        IsStampRefused S.opens S.checks (allowed hook.now.rules.items) S.iv_of
+        (S.wants_iv sealer.now) (D.told draws.old)
+        (D.told draws.new) desk.old desk.new run bytes.now clock e) }
+    ensures moved { HasMovedDraws S.opens S.checks
+        (allowed hook.now.rules.items) desk.old run bytes.now (D.told draws.old)
+        (D.told draws.new) }
     ensures later { D.fault_count draws.old ≤ D.fault_count draws.new }
     ensures quiet { OnOk result (D.fault_count draws.new ≡ D.fault_count draws.old) }
-    ensures memory { IfErr result (λ e. e ≡ Memory → D.fault_count draws.new ≡ D.fault_count draws.old) }
-    ensures unfailed { IfErr result (λ e. is_of_stamp e ≡ true → D.fault_count draws.new ≡ D.fault_count draws.old) }
-    ensures issue_due { OnErr result (IssuedAtMost S.opens S.checks (allowed hook.now.rules.items) desk.old desk.new run bytes.now clock) }
+    ensures memory { IfErr result (λ e. e ≡ Memory →
+        D.fault_count draws.new ≡ D.fault_count draws.old) }
+    ensures unfailed { IfErr result (λ e. is_of_stamp e ≡ true →
+        D.fault_count draws.new ≡ D.fault_count draws.old) }
+    ensures issue_due { OnErr result (IssuedAtMost S.opens S.checks
+        (allowed hook.now.rules.items) desk.old desk.new run bytes.now clock) }
     ensures running { IfErr result (λ e. e ≡ Memory → run_refusal (run_at desk.old run) ≡ None) }
 {
     let step = make_step(alloc, desk, sealer, hook, draws, run, bytes, clock)?;
@@ -139,16 +162,20 @@ pub fn start<T: Store, S: Sealer, D: Draws>(
     run: u32,
     clock: u64,
 ) -> Result<Term, Refusal>
-    ensures ok { IfOk result (λ message. Started S.opens S.checks S.iv_of (S.wants_iv sealer.now) (D.told draws.old) (D.told draws.new) desk.old desk.new run clock message) }
-    ensures refused { IfErr result (λ e. e ≢ Memory → IsFirstRefused desk.old run (Rose (D.fault_count draws.old) (D.fault_count draws.new)) e) }
+    ensures ok { IfOk result (λ message. Started S.opens S.checks S.iv_of (S.wants_iv sealer.now)
+        (D.told draws.old) (D.told draws.new) desk.old desk.new run clock message) }
+    ensures refused { IfErr result (λ e. e ≢ Memory →
+        IsFirstRefused desk.old run (Rose (D.fault_count draws.old) (D.fault_count draws.new)) e) }
     ensures err { OnErr result (MayHaveIssued desk.old desk.new clock) }
     ensures stays { IfErr result (λ e. e ≢ Memory → e ≢ DrawFault → Untouched desk.old desk.new) }
     ensures undrawn { IfErr result (λ e. e ≢ Memory → e ≢ DrawFault → draws.new ≡ draws.old) }
-    ensures faulted { IfErr result (λ e. e ≡ DrawFault → HasIssuedFirst desk.old desk.new run clock) }
+    ensures faulted { IfErr result (λ e. e ≡ DrawFault →
+        HasIssuedFirst desk.old desk.new run clock) }
     ensures moved { HasMovedDrawsFirst desk.old run (D.told draws.old) (D.told draws.new) }
     ensures later { D.fault_count draws.old ≤ D.fault_count draws.new }
     ensures quiet { OnOk result (D.fault_count draws.new ≡ D.fault_count draws.old) }
-    ensures memory { IfErr result (λ e. e ≡ Memory → D.fault_count draws.new ≡ D.fault_count draws.old) }
+    ensures memory { IfErr result (λ e. e ≡ Memory →
+        D.fault_count draws.new ≡ D.fault_count draws.old) }
     ensures issue_due { OnErr result (IssuedAtMostFirst desk.old desk.new run clock) }
     ensures running { IfErr result (λ e. e ≡ Memory → run_refusal (run_at desk.old run) ≡ None) }
     ensures first { IfErr result (λ e. e ≡ Memory → first_refusal (run_at desk.old run) ≡ None) }

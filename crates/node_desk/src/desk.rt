@@ -1,4 +1,5 @@
-ghost use Rattle.std.specs.Prelude.{true, ◌≡◌, ◌≢◌, ◌+◌, ◌<◌, ◌≤◌, ◌↔◌, IsTrue, [], ℕ, None, Some, max, OnOk, OnErr, IfOk, IfErr, MatchResult};
+ghost use Rattle.std.specs.Prelude.{true, ◌≡◌, ◌≢◌, ◌+◌, ◌<◌, ◌≤◌, ◌↔◌, IsTrue, [], ℕ, None, Some};
+ghost use Rattle.std.specs.Prelude.{max, OnOk, OnErr, IfOk, IfErr, MatchResult};
 ghost use Rattle.std.specs.Bool.{OnTrue, OnFalse};
 ghost use Rattle.agreement_laws.specs.Nodes.{opens_in};
 ghost use Rattle.mech_rows.specs.Heads.{me};
@@ -70,7 +71,9 @@ impl<T: Store> Desk<T> {
     ghost use Rattle.node_desk.specs.Helds.{Held};
     ghost use Rattle.node_desk.specs.Openings.{opening_refusal as opening_refused};
     ghost use Rattle.node_desk.specs.Refusals.{first_refusal, issue_refusal, run_refusal};
-    ghost use Rattle.node_desk.specs.Desks.{node_at, run_at, Entered, HasStepped, Untouched, CommitAnswers, IsLegalLog, IsWholeLog, IsMadeWith, AreMadeWith, IsUnused, due_stamp};
+    ghost use Rattle.node_desk.specs.Desks.{node_at, run_at, Entered, HasStepped, Untouched};
+    ghost use Rattle.node_desk.specs.Desks.{CommitAnswers, IsLegalLog, IsWholeLog, IsMadeWith};
+    ghost use Rattle.node_desk.specs.Desks.{AreMadeWith, IsUnused, due_stamp};
 
     /// A node that did nothing yet: no runs, an empty log. The issuer is of the ring's kind of
     /// stamps; the store has the ring's window, its now is 0, and it has accepted nothing. Takes no
@@ -121,9 +124,12 @@ impl<T: Store> Desk<T> {
     /// `UnknownRun` and `EndedRun`, each exactly where it holds; want of memory, only where the run
     /// is open.
     pub fn look(&self, run: u32) -> Result<Live, Refusal>
-        ensures state { IfOk result (λ state. run_at self.now run ≡ Some (record { state = live_state state; is_open = true })) }
-        ensures parts { IfOk result (λ state. has_parts self.now.ring (live_state state).head ≡ true) }
-        ensures refused { IfErr result (λ e. e ≢ Memory → run_refusal (run_at self.now run) ≡ Some e) }
+        ensures state { IfOk result (λ state.
+            run_at self.now run ≡ Some (record { state = live_state state; is_open = true })) }
+        ensures parts { IfOk result (λ state.
+            has_parts self.now.ring (live_state state).head ≡ true) }
+        ensures refused { IfErr result (λ e. e ≢ Memory →
+            run_refusal (run_at self.now run) ≡ Some e) }
         ensures memory { IfErr result (λ e. e ≡ Memory → run_refusal (run_at self.now run) ≡ None) }
     {
         let state = look_up(self.alloc, &self.run_slots, self.log.list(), run)?;
@@ -170,13 +176,16 @@ impl<T: Store> Desk<T> {
         requires plays { plays_live head.now ≡ true }
         ensures ok { IfOk result (λ run. Entered self.old self.new (Open run head.now texts.now)) }
         ensures fit { OnOk result (opening_refused (node_at self.old) head.now ≡ None) }
-        ensures refused { IfErr result (λ e. e ≢ Memory → opening_refused (node_at self.old) head.now ≡ Some e) }
-        ensures memory { IfErr result (λ e. e ≡ Memory → opening_refused (node_at self.old) head.now ≡ None) }
+        ensures refused { IfErr result (λ e. e ≢ Memory →
+            opening_refused (node_at self.old) head.now ≡ Some e) }
+        ensures memory { IfErr result (λ e. e ≡ Memory →
+            opening_refused (node_at self.old) head.now ≡ None) }
         ensures err { OnErr result (Untouched self.old self.new) }
         ensures grows { OnErr result (self.old.spare ≤ self.new.spare) }
         ensures spare { self.old.spare ≤ self.new.spare + 2 }
         ensures number { IfOk result (λ run. run ≡ opens_in (log_of self.old.log) + 1) }
-        ensures steps { IfOk result (λ run. HasStepped self.old self.new (Open run head.now texts.now)) }
+        ensures steps { IfOk result (λ run. HasStepped self.old self.new
+            (Open run head.now texts.now)) }
     {
         let opened = self.run_slots.as_slice().len();
         if let Some(refusal) = opening_refusal(&self.ring, self.running, opened, head) {
@@ -209,15 +218,18 @@ impl<T: Store> Desk<T> {
     /// `StampsSpent` exactly where the last number was the greatest; want of memory, only where it
     /// wasn't. Nothing but the room may have changed then, now neither, and the room only grows.
     pub fn issue(&mut self, clock: u64) -> Result<Stamp, Refusal>
-        ensures ok { IfOk result (λ stamp. Entered self.old self.new (Issue (max (node_at self.old).now clock) stamp)) }
+        ensures ok { IfOk result (λ stamp. Entered self.old self.new
+            (Issue (max (node_at self.old).now clock) stamp)) }
         ensures unused { IfOk result (λ stamp. IsUnused (Some stamp) (log_of self.new.log)) }
         ensures fit { OnOk result (issue_refusal (node_at self.old) ≡ None) }
-        ensures refused { IfErr result (λ e. e ≢ Memory → issue_refusal (node_at self.old) ≡ Some e) }
+        ensures refused { IfErr result (λ e. e ≢ Memory →
+            issue_refusal (node_at self.old) ≡ Some e) }
         ensures spent { IfErr result (λ e. e ≡ Memory → issue_refusal (node_at self.old) ≡ None) }
         ensures err { OnErr result (Untouched self.old self.new) }
         ensures grows { OnErr result (self.old.spare ≤ self.new.spare) }
         ensures stamp { IfOk result (λ stamp. due_stamp (node_at self.old) clock ≡ Some stamp) }
-        ensures steps { IfOk result (λ stamp. HasStepped self.old self.new (Issue (max (node_at self.old).now clock) stamp)) }
+        ensures steps { IfOk result (λ stamp.
+            HasStepped self.old self.new (Issue (max (node_at self.old).now clock) stamp)) }
         ensures moment { OnOk result ((node_at self.new).now ≡ max (node_at self.old).now clock) }
         ensures spare { self.old.spare ≤ self.new.spare + 1 }
     {
@@ -267,7 +279,8 @@ impl<T: Store> Desk<T> {
     /// Whether a step suits the node: it was made with the ring's keys, and the stamp that it
     /// issued, where there is one, was issued by this node and used by no commit. Takes no memory.
     pub fn suits(&self, step: &Step<Live>) -> bool
-        ensures suits { IsTrue result ↔ (IsMadeWith (keys_in self.now.ring) step.now × IsUnused step.now.issued (log_of self.now.log)) }
+        ensures suits { IsTrue result ↔ (IsMadeWith (keys_in self.now.ring) step.now
+            × IsUnused step.now.issued (log_of self.now.log)) }
     {
         has_keys(&self.ring, step) && is_unused(self.log.list(), issued_by(step))
     }
@@ -289,12 +302,14 @@ impl<T: Store> Desk<T> {
         requires room { 0 < self.old.spare }
         requires made { IsMadeWith (keys_in self.old.ring) step }
         requires issued { IsUnused step.issued (log_of self.old.log) }
-        ensures ok { OnOk result (Entered self.old self.new (Commit run (max (node_at self.old).now clock) step)) }
+        ensures ok { OnOk result (Entered self.old self.new
+            (Commit run (max (node_at self.old).now clock) step)) }
         ensures fit { OnOk result (CommitAnswers self.old run step clock None) }
         ensures refused { IfErr result (λ e. CommitAnswers self.old run step clock (Some e)) }
         ensures memory { IfErr result (λ e. e ≢ Memory) }
         ensures err { OnErr result (self.new ≡ self.old) }
-        ensures steps { OnOk result (HasStepped self.old self.new (Commit run (max (node_at self.old).now clock) step)) }
+        ensures steps { OnOk result (HasStepped self.old self.new
+            (Commit run (max (node_at self.old).now clock) step)) }
         ensures moment { OnOk result ((node_at self.new).now ≡ max (node_at self.old).now clock) }
         ensures spare { self.old.spare ≤ self.new.spare + 1 }
     {

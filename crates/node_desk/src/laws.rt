@@ -18,7 +18,13 @@ use agreement_laws::Sealing;
 /// node machine is one over it where the event's step is; and a step that was made with some keys
 /// is, over each relation over which it is a step, one with these keys.
 pub fn desks_step_over_every_sealing<S: Sealing>()
-    ensures legal { (ring : Ring) (first : ℕ) (log : List Event) → IsWholeLog ring first log → AreSteps S.opens (keys_in ring) (reverse log) → IsLegal S.opens (new_node ring first) (log_of log) }
-    ensures steps { (opens : Key → Tree → Option Tree) (checks : Key → Tree → Tree → Bool) (old new : Node) (event : Event) → NodeStep (tested_by opens checks) old (event_of event) new → IsStepEvent S.opens (keys_in old.ring) event → NodeStep S.opens old (event_of event) new }
-    ensures made { (keys other : Keys) (step : Move) → IsMadeWith keys step → IsStep S.opens other (step_of step) → IsStep S.opens keys (step_of step) }
+    ensures legal { (ring : Ring) (first : ℕ) (log : List Event) → IsWholeLog ring first log →
+        AreSteps S.opens (keys_in ring) (reverse log) →
+        IsLegal S.opens (new_node ring first) (log_of log) }
+    ensures steps { (opens : Key → Tree → Option Tree) (checks : Key → Tree → Tree → Bool)
+        (old new : Node) (event : Event) → NodeStep (tested_by opens checks) old
+        (event_of event) new → IsStepEvent S.opens (keys_in old.ring) event →
+        NodeStep S.opens old (event_of event) new }
+    ensures made { (keys other : Keys) (step : Move) → IsMadeWith keys step →
+        IsStep S.opens other (step_of step) → IsStep S.opens keys (step_of step) }
 {}

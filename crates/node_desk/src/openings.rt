@@ -5,7 +5,8 @@ ghost use Rattle.mech_rows.specs.Rings.{Peer as PeerOf, keys_in};
 ghost use Rattle.mech_rows.specs.Heads.{IsHead};
 ghost use Rattle.mech_rows.specs.Openings.{has_parts as ring_has_parts};
 ghost use Rattle.agreement_laws.specs.Nodes.{knows as ring_knows, serves as ring_serves};
-ghost use Rattle.node_desk.specs.Openings.{are_known, have_wrong_kinds, head_refusal as refusal_by_ring, opening_by};
+ghost use Rattle.node_desk.specs.Openings.{are_known, have_wrong_kinds};
+ghost use Rattle.node_desk.specs.Openings.{head_refusal as refusal_by_ring, opening_by};
 
 use mech_rows::{Peer, Refusal, Ring, Role, RunHead};
 use term_values::{Name, Part};

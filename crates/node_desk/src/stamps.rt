@@ -28,7 +28,9 @@ pub(crate) fn judge_all<T: Store>(
     kind: StampKind,
     got: &[Got],
 ) -> Option<Refusal>
-    ensures { (accepted : List Accepted) → T.stands_for store.now accepted → result ≡ stamps_refusal (T.window store.now) (max (T.now store.now) clock) accepted kind got.now }
+    ensures { (accepted : List Accepted) → T.stands_for store.now accepted →
+        result ≡ stamps_refusal (T.window store.now)
+        (max (T.now store.now) clock) accepted kind got.now }
 {
     for each in got {
         let verdict = store.probe(clock, kind, each.sender, &each.tag, &each.stamp);
@@ -43,7 +45,8 @@ pub(crate) fn judge_all<T: Store>(
 /// Records received stamps.
 pub(crate) fn record_all<T: Store>(store: &mut T, kind: StampKind, got: &[Got])
     requires room { length got.now ≤ T.spare store.old }
-    ensures added { (accepted : List Accepted) → T.stands_for store.old accepted → T.stands_for store.new (accepted ++ map accepted_of got.now) }
+    ensures added { (accepted : List Accepted) → T.stands_for store.old accepted →
+        T.stands_for store.new (accepted ++ map accepted_of got.now) }
     ensures room { T.spare store.old ≤ T.spare store.new + length got.now }
     ensures window { T.window store.new ≡ T.window store.old }
     ensures moment { T.now store.new ≡ T.now store.old }

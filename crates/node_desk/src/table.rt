@@ -1,4 +1,5 @@
-ghost use Rattle.std.specs.Prelude.{true, ◌≡◌, ◌≢◌, ◌+◌, ◌<◌, ◌↔◌, None, Some, Option, length, IfOk, IfErr, OnOk, IsTrue};
+ghost use Rattle.std.specs.Prelude.{true, ◌≡◌, ◌≢◌, ◌+◌, ◌<◌, ◌↔◌, None, Some, Option, length};
+ghost use Rattle.std.specs.Prelude.{IfOk, IfErr, OnOk, IsTrue};
 ghost use Rattle.mech_rows.specs.declared.refusal.Refusal.{Refusal as RefusalOf};
 ghost use Rattle.mech_rows.specs.declared.refusal.Refusal.TheVariants.{Memory, Moved};
 ghost use Rattle.node_desk.specs.Helds.{table_at};
@@ -17,7 +18,8 @@ pub(crate) fn find(run_slots: &[RunSlot], log: &[Event], run: u32) -> Result<usi
     ensures place { IfOk result (λ place. place + 1 ≡ run) }
     ensures within { IfOk result (λ place. place < length run_slots.now) }
     ensures running { OnOk result (run_refusal (table_at log.now run_slots.now run) ≡ None) }
-    ensures refused { IfErr result (λ e. run_refusal (table_at log.now run_slots.now run) ≡ Some e) }
+    ensures refused { IfErr result (λ e. run_refusal (table_at log.now run_slots.now run)
+        ≡ Some e) }
     ensures memory { IfErr result (λ e. e ≢ Memory) }
 {
     let number = run as usize;
@@ -56,7 +58,8 @@ pub(crate) fn find_current(
     ensures place { IfOk result (λ place. place + 1 ≡ run) }
     ensures within { IfOk result (λ place. place < length run_slots.now) }
     ensures current { OnOk result (IsCurrent (table_at log.now run_slots.now run) step.now) }
-    ensures refused { IfErr result (λ e. (stamps : Option RefusalOf) → CommitAnswer (table_at log.now run_slots.now run) step.now stamps (Some e)) }
+    ensures refused { IfErr result (λ e. (stamps : Option RefusalOf) →
+        CommitAnswer (table_at log.now run_slots.now run) step.now stamps (Some e)) }
 {
     let place = find(run_slots, log, run)?;
     let state = latest(&run_slots[place], log);
@@ -68,8 +71,10 @@ pub(crate) fn find_current(
 
 /// The state of an open run.
 fn current<'a>(run_slots: &'a [RunSlot], log: &'a [Event], run: u32) -> Result<&'a Live, Refusal>
-    ensures state { IfOk result (λ state. table_at log.now run_slots.now run ≡ Some (record { state = live_state state.now; is_open = true })) }
-    ensures refused { IfErr result (λ e. run_refusal (table_at log.now run_slots.now run) ≡ Some e) }
+    ensures state { IfOk result (λ state. table_at log.now run_slots.now run ≡ Some
+        (record { state = live_state state.now; is_open = true })) }
+    ensures refused { IfErr result (λ e. run_refusal (table_at log.now run_slots.now run)
+        ≡ Some e) }
     ensures memory { IfErr result (λ e. e ≢ Memory) }
 {
     let place = find(run_slots, log, run)?;
@@ -79,7 +84,8 @@ fn current<'a>(run_slots: &'a [RunSlot], log: &'a [Event], run: u32) -> Result<&
 /// Judges whether a run says its first message now.
 pub(crate) fn check_first(run_slots: &[RunSlot], log: &[Event], run: u32) -> Result<(), Refusal>
     ensures fit { OnOk result (first_refusal (table_at log.now run_slots.now run) ≡ None) }
-    ensures refused { IfErr result (λ e. first_refusal (table_at log.now run_slots.now run) ≡ Some e) }
+    ensures refused { IfErr result (λ e. first_refusal (table_at log.now run_slots.now run)
+        ≡ Some e) }
     ensures memory { IfErr result (λ e. e ≢ Memory) }
 {
     let state = current(run_slots, log, run)?;
@@ -96,9 +102,12 @@ pub(crate) fn look_up(
     log: &[Event],
     run: u32,
 ) -> Result<Live, Refusal>
-    ensures state { IfOk result (λ state. table_at log.now run_slots.now run ≡ Some (record { state = live_state state; is_open = true })) }
-    ensures refused { IfErr result (λ e. e ≢ Memory → run_refusal (table_at log.now run_slots.now run) ≡ Some e) }
-    ensures memory { IfErr result (λ e. e ≡ Memory → run_refusal (table_at log.now run_slots.now run) ≡ None) }
+    ensures state { IfOk result (λ state. table_at log.now run_slots.now run ≡ Some
+        (record { state = live_state state; is_open = true })) }
+    ensures refused { IfErr result (λ e. e ≢ Memory →
+        run_refusal (table_at log.now run_slots.now run) ≡ Some e) }
+    ensures memory { IfErr result (λ e. e ≡ Memory →
+        run_refusal (table_at log.now run_slots.now run) ≡ None) }
 {
     let state = current(run_slots, log, run)?;
     Ok(state.copy(alloc)?)

@@ -1,4 +1,5 @@
-ghost use Rattle.std.specs.Prelude.{◌≡◌, ◌+◌, ◌↔◌, ℕ, Option, Some, IsErr, IfOk, OnOk, OnErr, is_err};
+ghost use Rattle.std.specs.Prelude.{◌≡◌, ◌+◌, ◌↔◌, ℕ, Option, Some, IsErr, IfOk, OnOk, OnErr};
+ghost use Rattle.std.specs.Prelude.{is_err};
 ghost use Rattle.outside.specs.Causes.{HasCause};
 ghost use Rattle.outside.specs.Tally.{IsToFail, no_calls, tally_after};
 ghost use Rattle.outside.specs.Told.{Told, IsDrawn, nonce_draw, part_draw, counted_draw};
@@ -27,7 +28,8 @@ pub trait Draws {
     ///
     /// [`Failed`] only where the count of faults rose in this call; the place stays. After Ok the count stays.
     fn nonce(&mut self) -> Result<Nonce, Failed>
-        ensures drawn { IfOk result (λ nonce. IsDrawn nonce_draw (told self.old) (told self.new) nonce) }
+        ensures drawn { IfOk result (λ nonce.
+            IsDrawn nonce_draw (told self.old) (told self.new) nonce) }
         ensures stays { OnErr result (told self.new ≡ told self.old) }
         ensures quiet { OnOk result (fault_count self.new ≡ fault_count self.old) }
         ensures cause { HasCause (fault_count self.old) (fault_count self.new) result };
@@ -38,7 +40,8 @@ pub trait Draws {
     ///
     /// [`Failed`] only where the count of faults rose in this call; the place stays. After Ok the count stays.
     fn part(&mut self) -> Result<Part, Failed>
-        ensures drawn { IfOk result (λ part. IsDrawn part_draw (told self.old) (told self.new) part) }
+        ensures drawn { IfOk result (λ part.
+            IsDrawn part_draw (told self.old) (told self.new) part) }
         ensures stays { OnErr result (told self.new ≡ told self.old) }
         ensures quiet { OnOk result (fault_count self.new ≡ fault_count self.old) }
         ensures cause { HasCause (fault_count self.old) (fault_count self.new) result };
@@ -82,7 +85,8 @@ impl MemDraws {
 
     /// The place of this draw, which the next one leaves behind.
     fn next_place(&mut self) -> Result<u64, Failed>
-        ensures place { IfOk result (λ place. (place ≡ self.old.place) × (self.new.place ≡ self.old.place + 1)) }
+        ensures place { IfOk result (λ place. (place ≡ self.old.place)
+            × (self.new.place ≡ self.old.place + 1)) }
         ensures stays { OnErr result (self.new.place ≡ self.old.place) }
         ensures lead { self.new.lead ≡ self.old.lead }
         ensures fails { IsErr result ↔ IsToFail self.old.calls }
@@ -133,7 +137,9 @@ impl Draws for MemDraws {
     /// [`Failed`] exactly where the number of this call is listed or above
     /// 18,446,744,073,709,551,615; the place stays.
     fn nonce(&mut self) -> Result<Nonce, Failed>
-        ensures drawn { IfOk result (λ nonce. (nonce ≡ counted_draw self.old.lead nonce_draw self.old.place) × (self.new.place ≡ self.old.place + 1)) }
+        ensures drawn { IfOk result (λ nonce.
+            (nonce ≡ counted_draw self.old.lead nonce_draw self.old.place)
+            × (self.new.place ≡ self.old.place + 1)) }
         ensures stays { OnErr result (self.new.place ≡ self.old.place) }
         ensures lead { self.new.lead ≡ self.old.lead }
         ensures fails { IsErr result ↔ IsToFail self.old.calls }
@@ -151,7 +157,9 @@ impl Draws for MemDraws {
     /// [`Failed`] exactly where the number of this call is listed or above
     /// 18,446,744,073,709,551,615; the place stays.
     fn part(&mut self) -> Result<Part, Failed>
-        ensures drawn { IfOk result (λ part. (part ≡ counted_draw self.old.lead part_draw self.old.place) × (self.new.place ≡ self.old.place + 1)) }
+        ensures drawn { IfOk result (λ part.
+            (part ≡ counted_draw self.old.lead part_draw self.old.place)
+            × (self.new.place ≡ self.old.place + 1)) }
         ensures stays { OnErr result (self.new.place ≡ self.old.place) }
         ensures lead { self.new.lead ≡ self.old.lead }
         ensures fails { IsErr result ↔ IsToFail self.old.calls }

@@ -1,6 +1,7 @@
 ghost use Rattle.std.specs.Prelude.{◌≡◌, ◌+◌, ◌<◌, ℕ, Option, IfOk, OnErr, ◌∷◌, []};
 ghost use Rattle.outside.specs.Causes.{HasCause};
-ghost use Rattle.outside.specs.Gates.{Gated, Admits, Leaves, Tells, after_return, out_after, out_dialed};
+ghost use Rattle.outside.specs.Gates.{Gated, Admits, Leaves, Tells, after_return, out_after};
+ghost use Rattle.outside.specs.Gates.{out_dialed};
 
 use crate::fault::Failed;
 use crate::link::Link;
@@ -30,7 +31,8 @@ pub trait Gate {
     ///
     /// [`Failed`] only where the count of faults rose in this call; the lists stay.
     fn admit(&mut self) -> Result<Option<Self::Line>, Failed>
-        ensures admits { IfOk result (λ line. Tells (λ old new. Admits old new line) (told self.old) (told self.new)) }
+        ensures admits { IfOk result (λ line.
+            Tells (λ old new. Admits old new line) (told self.old) (told self.new)) }
         ensures stays { OnErr result (told self.new ≡ told self.old) }
         ensures out { lines_out self.new ≡ out_after result (lines_out self.old) }
         ensures cause { HasCause (fault_count self.old) (fault_count self.new) result };
@@ -41,7 +43,8 @@ pub trait Gate {
     ///
     /// [`Failed`] only where the count of faults rose in this call; the lists stay.
     fn dial(&mut self, port: u16) -> Result<Self::Line, Failed>
-        ensures dials { IfOk result (λ line. Tells (λ old new. Leaves old new line (port ∷ [])) (told self.old) (told self.new)) }
+        ensures dials { IfOk result (λ line.
+            Tells (λ old new. Leaves old new line (port ∷ [])) (told self.old) (told self.new)) }
         ensures stays { OnErr result (told self.new ≡ told self.old) }
         ensures out { lines_out self.new ≡ out_dialed result (lines_out self.old) }
         ensures cause { HasCause (fault_count self.old) (fault_count self.new) result };
@@ -49,7 +52,8 @@ pub trait Gate {
     /// Takes back a line whose session has ended. Takes no memory.
     fn give_back(&mut self, line: Self::Line)
         requires { 0 < lines_out self.old }
-        ensures returned { Tells (λ old new. new ≡ after_return line old) (told self.old) (told self.new) }
+        ensures returned { Tells (λ old new. new ≡ after_return line old) (told self.old)
+            (told self.new) }
         ensures out { lines_out self.new + 1 ≡ lines_out self.old }
         ensures count { fault_count self.new ≡ fault_count self.old };
 }

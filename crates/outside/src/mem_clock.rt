@@ -1,4 +1,5 @@
-ghost use Rattle.std.specs.Prelude.{◌≡◌, ◌<◌, ◌+◌, ◌↔◌, ◌++◌, ◌∷◌, [], Some, IsErr, IfOk, OnErr, is_err, length};
+ghost use Rattle.std.specs.Prelude.{◌≡◌, ◌<◌, ◌+◌, ◌↔◌, ◌++◌, ◌∷◌, [], Some, IsErr, IfOk, OnErr};
+ghost use Rattle.std.specs.Prelude.{is_err, length};
 ghost use Rattle.outside.specs.Causes.{HasCause};
 ghost use Rattle.outside.specs.Memory.{answer_at, answers_of};
 ghost use Rattle.outside.specs.Tally.{IsToFail, no_calls, tally_after};
@@ -73,8 +74,10 @@ impl Clock for MemClock {
     /// [`Failed`] exactly where the number of this call is listed or above
     /// 18,446,744,073,709,551,615; the list of answers stays.
     fn now_ms(&mut self) -> Result<u64, Failed>
-        ensures told { IfOk result (λ ms. (ms ≡ answer_at self.old.script self.old.given) × (self.new.given ≡ self.old.given + 1)) }
-        ensures grows { IfOk result (λ ms. answers_of self.new.script self.new.given ≡ answers_of self.old.script self.old.given ++ ms ∷ []) }
+        ensures told { IfOk result (λ ms. (ms ≡ answer_at self.old.script self.old.given)
+            × (self.new.given ≡ self.old.given + 1)) }
+        ensures grows { IfOk result (λ ms. answers_of self.new.script self.new.given
+            ≡ answers_of self.old.script self.old.given ++ ms ∷ []) }
         ensures stays { OnErr result (self.new.given ≡ self.old.given) }
         ensures script { self.new.script ≡ self.old.script }
         ensures fails { IsErr result ↔ IsToFail self.old.calls }

@@ -1,4 +1,5 @@
-ghost use Rattle.std.specs.Prelude.{◌≡◌, ◌↔◌, ◌⊎◌, ◌+◌, ◌<◌, ◌∷◌, [], Some, IsErr, IfOk, OnErr, is_err, length};
+ghost use Rattle.std.specs.Prelude.{◌≡◌, ◌↔◌, ◌⊎◌, ◌+◌, ◌<◌, ◌∷◌, [], Some, IsErr, IfOk, OnErr};
+ghost use Rattle.std.specs.Prelude.{is_err, length};
 ghost use Rattle.outside.specs.Causes.{HasCause};
 ghost use Rattle.outside.specs.Gates.{Gated, Admits, Leaves, after_return, out_after, out_dialed};
 ghost use Rattle.outside.specs.Tally.{IsToFail, no_calls, tally_after};
@@ -41,7 +42,8 @@ impl<L> Model for MemGate<L> {
 
 impl<L: Link + Drop> MemGate<L> {
     /// A gate to which these lines come, in this order. The calls that can fail are numbered
-    /// together from 1; those whose numbers are listed fail.
+    /// together from 1; those whose numbers are listed fail. It takes the room for all its lists at
+    /// once, so no later call of it wants memory.
     ///
     /// # Errors
     ///
@@ -124,7 +126,8 @@ impl<L: Link + Drop> Gate for MemGate<L> {
     /// [`Failed`] exactly where no line is to come, or the number of this call is listed or above
     /// 18,446,744,073,709,551,615; the lists stay.
     fn dial(&mut self, port: u16) -> Result<L, Failed>
-        ensures dials { IfOk result (λ line. Leaves self.old.lists self.new.lists line (port ∷ [])) }
+        ensures dials { IfOk result (λ line.
+            Leaves self.old.lists self.new.lists line (port ∷ [])) }
         ensures stays { OnErr result (self.new.lists ≡ self.old.lists) }
         ensures out { self.new.lines_out ≡ out_dialed result self.old.lines_out }
         ensures fails { IsErr result ↔ (IsToFail self.old.calls ⊎ (self.old.lists.to_come ≡ [])) }

@@ -71,7 +71,7 @@ impl Keeper for MemKeeper {
         self.calls.faults()
     }
 
-    /// Adds all the marks, in their order.
+    /// Adds all the marks, in their order. Each call counts, also one that ends for want of memory.
     ///
     /// # Errors
     ///

@@ -1,4 +1,5 @@
-ghost use Rattle.std.specs.Prelude.{◌≡◌, ◌↔◌, [], Some, Err, IsErr, IfOk, OnErr, is_err, min, length, drop};
+ghost use Rattle.std.specs.Prelude.{◌≡◌, ◌↔◌, [], Some, Err, IsErr, IfOk, OnErr, is_err, min};
+ghost use Rattle.std.specs.Prelude.{length, drop};
 ghost use Rattle.std.specs.Io.{ReadsAtMost};
 ghost use Rattle.std.specs.Io.KnownBytes.{ReadConsumes};
 ghost use Rattle.outside.specs.Causes.{HasCause, HasPutCause, PutAppends, has_failed};
@@ -92,7 +93,8 @@ impl Link for MemLink {
     /// 18,446,744,073,709,551,615, and [`PutFault::Memory`] for want of memory. After either
     /// nothing was appended.
     fn put(&mut self, piece: &[u8]) -> Result<(), PutFault>
-        ensures bytes { PutAppends (Some self.old.written) (Some self.new.written) result piece.now }
+        ensures bytes { PutAppends (Some self.old.written)
+            (Some self.new.written) result piece.now }
         ensures kept { self.new.left ≡ self.old.left }
         ensures cause { HasPutCause self.old.calls.faults self.new.calls.faults result }
         ensures fails { (result ≡ Err fault.Failed) ↔ IsToFail self.old.calls }

@@ -97,7 +97,8 @@ impl Sink for MemSink {
     /// 18,446,744,073,709,551,615, and [`PutFault::Memory`] for want of memory. After either
     /// nothing was appended.
     fn put(&mut self, piece: &[u8]) -> Result<(), PutFault>
-        ensures bytes { PutAppends (Some self.old.written) (Some self.new.written) result piece.now }
+        ensures bytes { PutAppends (Some self.old.written)
+            (Some self.new.written) result piece.now }
         ensures cause { HasPutCause self.old.calls.faults self.new.calls.faults result }
         ensures fails { (result ≡ Err fault.Failed) ↔ IsToFail self.old.calls }
         ensures counted { self.new.calls ≡ tally_after (has_failed result) self.old.calls }

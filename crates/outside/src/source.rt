@@ -1,4 +1,5 @@
-ghost use Rattle.std.specs.Prelude.{◌≡◌, ◌↔◌, List, ℕ, Option, Some, IsOk, IsErr, IfOk, OnErr, is_err, ◌<◌, ◌≤◌, ◌+◌, ◌-◌, ◌++◌, [], min, length, take, drop};
+ghost use Rattle.std.specs.Prelude.{◌≡◌, ◌↔◌, List, ℕ, Option, Some, IsOk, IsErr, IfOk, OnErr};
+ghost use Rattle.std.specs.Prelude.{is_err, ◌<◌, ◌≤◌, ◌+◌, ◌-◌, ◌++◌, [], min, length, take, drop};
 ghost use Rattle.std.specs.Io.{ReadsAtMost};
 ghost use Rattle.std.specs.Io.KnownBytes.{ReadConsumes};
 ghost use Rattle.outside.specs.Causes.{HasCause};

@@ -1,4 +1,5 @@
-ghost use Rattle.std.specs.Prelude.{◌≡◌, ◌++◌, [], Some, Err, IsOk, IfOk, OnOk, OnErr, min, length, drop};
+ghost use Rattle.std.specs.Prelude.{◌≡◌, ◌++◌, [], Some, Err, IsOk, IfOk, OnOk, OnErr, min, length};
+ghost use Rattle.std.specs.Prelude.{drop};
 ghost use Rattle.std.specs.Io.{ReadsAtMost};
 ghost use Rattle.std.specs.Io.KnownBytes.{ReadConsumes};
 ghost use Rattle.outside.specs.declared.fault.PutFault.TheVariants as fault;

@@ -1,4 +1,5 @@
-ghost use Rattle.std.specs.Prelude.{◌≡◌, ◌+◌, ◌%◌, ◌^◌, ◌<◌, ◌≤◌, [], ℕ, Bool, OnOk, cond, count_by, length, nat_le, filter};
+ghost use Rattle.std.specs.Prelude.{◌≡◌, ◌+◌, ◌%◌, ◌^◌, ◌<◌, ◌≤◌, [], ℕ, Bool, OnOk, cond};
+ghost use Rattle.std.specs.Prelude.{count_by, length, nat_le, filter};
 ghost use Rattle.replay_store.specs.Windows.{below, up_to};
 
 use crate::tree::{Node, Tree};
@@ -95,7 +96,8 @@ impl Ranked {
     #[tactic(auto, using(crate::proofs::Rising::count_placed, crate::proofs::Rising::length_placed, crate::proofs::Rising::rises_placed))]
     pub fn add(&mut self, key: u128)
         requires { 0 < self.old.room }
-        ensures added { (p : ℕ → Bool) → count_by p self.new.keys ≡ count_by p self.old.keys + cond (p key) 1 0 }
+        ensures added { (p : ℕ → Bool) → count_by p self.new.keys ≡ count_by p self.old.keys + cond
+            (p key) 1 0 }
         ensures room { self.old.room ≤ self.new.room + 1 }
     {
         let Some(mut node) = self.unused.pop() else {

@@ -1,7 +1,9 @@
 ghost use Rattle.std.specs.Prelude.{◌≡◌, length};
 ghost use Rattle.std.specs.List.{list_any};
-ghost use Rattle.replay_store.specs.Stamps.{accept, live_times, number_verdict, numbers, stamp_verdict, time_verdict};
-ghost use Rattle.replay_store.specs.Stores.{greatest_after, greatest_number, is_live_at, is_number_at, same_accepted};
+ghost use Rattle.replay_store.specs.Stamps.{accept, live_times, number_verdict, numbers};
+ghost use Rattle.replay_store.specs.Stamps.{stamp_verdict, time_verdict};
+ghost use Rattle.replay_store.specs.Stores.{greatest_after, greatest_number, is_live_at};
+ghost use Rattle.replay_store.specs.Stores.{is_number_at, same_accepted};
 
 use crate::entry::Entry;
 use crate::judged::{judge_number, judge_time};
@@ -71,7 +73,8 @@ pub(crate) fn greatest(entries: &[Entry], sender: Name, tag: &Tag) -> Option<u64
 
 /// Whether that stamp of that sender and tag was accepted.
 pub(crate) fn has_same(entries: &[Entry], sender: Name, tag: &Tag, stamp: &Stamp) -> bool
-    ensures { result ≡ list_any (λ a. same_accepted (accept sender tag.now stamp.now) a) entries.now }
+    ensures { result ≡ list_any (λ a. same_accepted
+        (accept sender tag.now stamp.now) a) entries.now }
 {
     match *stamp {
         Stamp::Time(time) => entries
@@ -92,7 +95,8 @@ fn judge_as_time(
     tag: &Tag,
     time: u64,
 ) -> Verdict
-    ensures { result ≡ time_verdict window now (live_times window now sender tag.now entries.now) time }
+    ensures { result ≡ time_verdict window now
+        (live_times window now sender tag.now entries.now) time }
 {
     let found = has_live(entries, window, now, sender, tag, time);
     let count = live_count(entries, window, now, sender, tag);

@@ -26,7 +26,8 @@ pub trait Store: Drop {
     fn tick(&mut self, clock: u64) -> u64
         ensures answer { result ≡ max (now self.old) clock }
         ensures moved { now self.new ≡ max (now self.old) clock }
-        ensures stays { (accepted : List Accepted) → stands_for self.old accepted → stands_for self.new accepted }
+        ensures stays { (accepted : List Accepted) → stands_for self.old accepted →
+            stands_for self.new accepted }
         ensures window { window self.new ≡ window self.old }
         ensures room { spare self.old ≤ spare self.new };
 
@@ -38,18 +39,22 @@ pub trait Store: Drop {
     fn reserve(&mut self, more: usize) -> Result<(), OutOfMemory>
         ensures room { OnOk result (more ≤ spare self.new) }
         ensures kept { spare self.old ≤ spare self.new }
-        ensures stays { (accepted : List Accepted) → stands_for self.old accepted → stands_for self.new accepted }
+        ensures stays { (accepted : List Accepted) → stands_for self.old accepted →
+            stands_for self.new accepted }
         ensures window { window self.new ≡ window self.old }
         ensures moment { now self.new ≡ now self.old };
 
     /// The verdict on a stamp at the greater of now and the clock. Takes no memory.
     fn probe(&self, clock: u64, kind: StampKind, sender: Name, tag: &Tag, stamp: &Stamp) -> Verdict
-        ensures verdict { (accepted : List Accepted) → stands_for self.now accepted → result ≡ stamp_verdict (window self.now) (max (now self.now) clock) accepted kind sender tag.now stamp.now };
+        ensures verdict { (accepted : List Accepted) → stands_for self.now accepted →
+            result ≡ stamp_verdict (window self.now)
+            (max (now self.now) clock) accepted kind sender tag.now stamp.now };
 
     /// Adds this stamp to those that were accepted, and nothing else. Takes no memory.
     fn record(&mut self, kind: StampKind, sender: Name, tag: &Tag, stamp: &Stamp)
         requires { 0 < spare self.old }
-        ensures added { (accepted : List Accepted) → stands_for self.old accepted → stands_for self.new (accepted ++ accept sender tag.now stamp.now ∷ []) }
+        ensures added { (accepted : List Accepted) → stands_for self.old accepted →
+            stands_for self.new (accepted ++ accept sender tag.now stamp.now ∷ []) }
         ensures room { spare self.old ≤ spare self.new + 1 }
         ensures window { window self.new ≡ window self.old }
         ensures moment { now self.new ≡ now self.old };
@@ -57,7 +62,8 @@ pub trait Store: Drop {
     /// Adds this stamp to those that were accepted where it isn't among them, whatever its verdict. Takes no memory.
     fn restore(&mut self, sender: Name, tag: &Tag, stamp: &Stamp)
         requires { 0 < spare self.old }
-        ensures added { (accepted : List Accepted) → stands_for self.old accepted → stands_for self.new (restored accepted (accept sender tag.now stamp.now)) }
+        ensures added { (accepted : List Accepted) → stands_for self.old accepted →
+            stands_for self.new (restored accepted (accept sender tag.now stamp.now)) }
         ensures room { spare self.old ≤ spare self.new + 1 }
         ensures window { window self.new ≡ window self.old }
         ensures moment { now self.new ≡ now self.old };

@@ -1,7 +1,10 @@
-ghost use Rattle.std.specs.Prelude.{◌≡◌, ◌+◌, ◌^◌, ◌<◌, ◌≤◌, [], ℕ, Bool, List, not, count_by, cond, get_or, length, ◌&&◌};
+ghost use Rattle.std.specs.Prelude.{◌≡◌, ◌+◌, ◌^◌, ◌<◌, ◌≤◌, [], ℕ, Bool, List, not, count_by};
+ghost use Rattle.std.specs.Prelude.{cond, get_or, length, ◌&&◌};
 ghost use Rattle.std.specs.HashMap.{spare};
 ghost use Rattle.replay_store.specs.Stamps.{Accepted, live, number_of};
-ghost use Rattle.replay_store.specs.Windows.{IsPair, Recalls, SeesOneMore, has_key, held_verdict, key_of, kept_count, number_by_seen, pair_of, time_by_keys};
+ghost use Rattle.replay_store.specs.Windows.{IsPair, Recalls, SeesOneMore, has_key, held_verdict};
+ghost use Rattle.replay_store.specs.Windows.{key_of, kept_count, number_by_seen, pair_of};
+ghost use Rattle.replay_store.specs.Windows.{time_by_keys};
 
 use crate::judged::{is_live, judge_number, judge_time};
 use crate::ranked::Ranked;
@@ -113,7 +116,8 @@ fn judge_held(
 /// Adds a time of a pair, where it is live.
 fn add_time(times: &mut Ranked, window: u32, now: u64, pair: u64, time: u64)
     requires { 0 < times.old.room }
-    ensures added { (p : ℕ → Bool) → count_by p times.new.keys ≡ count_by p times.old.keys + cond (live window now time && p (key_of pair time)) 1 0 }
+    ensures added { (p : ℕ → Bool) → count_by p times.new.keys ≡ count_by p times.old.keys + cond
+        (live window now time && p (key_of pair time)) 1 0 }
     ensures room { times.old.room ≤ times.new.room + 1 }
 {
     if is_live(window, now, time) {
@@ -124,7 +128,9 @@ fn add_time(times: &mut Ranked, window: u32, now: u64, pair: u64, time: u64)
 /// Adds a time of a pair, where it is live and isn't there.
 fn restore_time(times: &mut Ranked, window: u32, now: u64, pair: u64, time: u64)
     requires { 0 < times.old.room }
-    ensures added { (p : ℕ → Bool) → count_by p times.new.keys ≡ count_by p times.old.keys + cond (live window now time && not (has_key (key_of pair time) times.old.keys) && p (key_of pair time)) 1 0 }
+    ensures added { (p : ℕ → Bool) → count_by p times.new.keys ≡ count_by p times.old.keys + cond
+        (live window now time && not (has_key (key_of pair time) times.old.keys) && p
+        (key_of pair time)) 1 0 }
     ensures room { times.old.room ≤ times.new.room + 1 }
 {
     let key = time_key(pair, time);
@@ -166,7 +172,8 @@ impl WindowStore {
     /// a sequence number was accepted. Takes no memory.
     pub fn kept(&self) -> usize
         ensures held { let s = self.entry.now in result ≡ length s.times + length s.numbers }
-        ensures needed { let s = self.entry.now in (accepted : List Accepted) → Recalls s accepted → result ≡ kept_count s.window s.now accepted }
+        ensures needed { let s = self.entry.now in (accepted : List Accepted) → Recalls s accepted →
+            result ≡ kept_count s.window s.now accepted }
     {
         self.times.len() + self.numbers.len()
     }

@@ -29,7 +29,8 @@ const PEERS_MAX: usize = 64;
 
 /// The window of a member; 5,000 milliseconds where it is missing.
 fn window(member: Option<&Value>) -> Result<u32, RingFault>
-    ensures { Gives (λ n. n) result (said_or 5000 window_in (option_map (λ v. view v.now) member.entry)) }
+    ensures { Gives (λ n. n) result (said_or 5000 window_in
+        (option_map (λ v. view v.now) member.entry)) }
 {
     match member {
         Some(member) => values::window(member),

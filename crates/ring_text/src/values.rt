@@ -3,7 +3,10 @@ ghost use Rattle.std.specs.List.{list_all};
 ghost use Rattle.serde_json.specs.Find.{as_str};
 ghost use Rattle.serde_json.specs.View.{view};
 ghost use Rattle.ring_text.specs.Faults.{Gives};
-ghost use Rattle.ring_text.specs.Values.{bytes_word, is_lower_digit, length_in, mech_in, mech_word, name_in, number_in, part_in, part_word, server_in, server_word, slot_in, slot_word, stamps_in, stamps_word, text_in, text_word, window_in};
+ghost use Rattle.ring_text.specs.Values.{bytes_word, is_lower_digit, length_in, mech_in, mech_word};
+ghost use Rattle.ring_text.specs.Values.{name_in, number_in, part_in, part_word, server_in};
+ghost use Rattle.ring_text.specs.Values.{server_word, slot_in, slot_word, stamps_in, stamps_word};
+ghost use Rattle.ring_text.specs.Values.{text_in, text_word, window_in};
 
 use crate::fault::RingFault;
 use hex::FromHexError;

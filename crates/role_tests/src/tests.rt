@@ -136,7 +136,8 @@ fn add_rules(
 /// A run between parties 1 and 2 that begins.
 fn begun<T: RoleState>(alloc: Global, mech: Mech, role: Role) -> Result<T, Fail>
     requires plays { T.plays (record { mech = mech; role = role; a = 1; b = 2; p = None }) ≡ true }
-    ensures head { IfOk result (λ s. (T.state_of s).head ≡ record { mech = mech; role = role; a = 1; b = 2; p = None }) }
+    ensures head { IfOk result (λ s. (T.state_of s).head
+        ≡ record { mech = mech; role = role; a = 1; b = 2; p = None }) }
 {
     let head = RunHead::new(mech, role, name(1)?, name(2)?, None).ok_or("no head")?;
     Ok(T::begin(alloc, &head, &texts(alloc)?)?)

@@ -8,7 +8,8 @@ ghost use Rattle.text_hooks.specs.Leading.{Leads, Refuses};
 ghost use Rattle.text_hooks.specs.Names.{key_of, opened_by};
 ghost use Rattle.roles_9798_2.specs.E2A.{is_e2a, run as run_a};
 ghost use Rattle.roles_9798_2.specs.E2B.{is_e2b, run as run_b};
-ghost use Rattle.roles_9798_2.specs.declared.e2.StageA.TheVariants.{Start as StartA, Heard as HeardA};
+ghost use Rattle.roles_9798_2.specs.declared.e2.StageA.TheVariants.{Start as StartA};
+ghost use Rattle.roles_9798_2.specs.declared.e2.StageA.TheVariants.{Heard as HeardA};
 ghost use Rattle.roles_9798_2.specs.declared.e2.StageB.TheVariants.{Asked as AskedB, Done as DoneB};
 
 // Pass 1, B to A: Rb, X1 in the clear.

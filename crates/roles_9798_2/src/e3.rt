@@ -9,7 +9,8 @@ ghost use Rattle.text_hooks.specs.Names.{key_of, opened_by};
 ghost use Rattle.roles_9798_2.specs.E3A.{is_e3a, run as run_a};
 ghost use Rattle.roles_9798_2.specs.E3B.{is_e3b, run as run_b};
 ghost use Rattle.roles_9798_2.specs.declared.e3.StageA.TheVariants.{Sent as SentA, Done as DoneA};
-ghost use Rattle.roles_9798_2.specs.declared.e3.StageB.TheVariants.{Start as StartB, Heard as HeardB};
+ghost use Rattle.roles_9798_2.specs.declared.e3.StageB.TheVariants.{Start as StartB};
+ghost use Rattle.roles_9798_2.specs.declared.e3.StageB.TheVariants.{Heard as HeardB};
 
 // Pass 1, A to B: X2 in the clear, and a seal of Ta, X1.
 // Pass 2, B to A: X4 in the clear, and a seal of Tb, X3.

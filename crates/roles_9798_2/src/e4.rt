@@ -8,8 +8,11 @@ ghost use Rattle.text_hooks.specs.Leading.{Leads, Refuses};
 ghost use Rattle.text_hooks.specs.Names.{key_of, opened_by};
 ghost use Rattle.roles_9798_2.specs.E4A.{is_e4a, run as run_a};
 ghost use Rattle.roles_9798_2.specs.E4B.{is_e4b, run as run_b};
-ghost use Rattle.roles_9798_2.specs.declared.e4.StageA.TheVariants.{Start as StartA, Heard as HeardA, Sent as SentA, Done as DoneA};
-ghost use Rattle.roles_9798_2.specs.declared.e4.StageB.TheVariants.{Asked as AskedB, Heard as HeardB};
+ghost use Rattle.roles_9798_2.specs.declared.e4.StageA.TheVariants.{Start as StartA};
+ghost use Rattle.roles_9798_2.specs.declared.e4.StageA.TheVariants.{Heard as HeardA, Sent as SentA};
+ghost use Rattle.roles_9798_2.specs.declared.e4.StageA.TheVariants.{Done as DoneA};
+ghost use Rattle.roles_9798_2.specs.declared.e4.StageB.TheVariants.{Asked as AskedB};
+ghost use Rattle.roles_9798_2.specs.declared.e4.StageB.TheVariants.{Heard as HeardB};
 
 // Pass 1, B to A: Rb, X1 in the clear.
 // Pass 2, A to B: X3 in the clear, and a seal of Ra, Rb, X2.

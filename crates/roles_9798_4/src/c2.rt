@@ -9,7 +9,8 @@ ghost use Rattle.text_hooks.specs.Leading.{Leads, Refuses};
 ghost use Rattle.text_hooks.specs.Names.{key_of, opened_by};
 ghost use Rattle.roles_9798_4.specs.C2A.{is_c2a, run as run_a};
 ghost use Rattle.roles_9798_4.specs.C2B.{covered, is_c2b, run as run_b};
-ghost use Rattle.roles_9798_4.specs.declared.c2.StageA.TheVariants.{Start as StartA, Heard as HeardA};
+ghost use Rattle.roles_9798_4.specs.declared.c2.StageA.TheVariants.{Start as StartA};
+ghost use Rattle.roles_9798_4.specs.declared.c2.StageA.TheVariants.{Heard as HeardA};
 ghost use Rattle.roles_9798_4.specs.declared.c2.StageB.TheVariants.{Asked as AskedB, Done as DoneB};
 
 // Pass 1, B to A: Rb, X1 in the clear.

@@ -10,7 +10,8 @@ ghost use Rattle.text_hooks.specs.Names.{key_of, opened_by};
 ghost use Rattle.roles_9798_4.specs.C3A.{covered as covered_a, is_c3a, run as run_a};
 ghost use Rattle.roles_9798_4.specs.C3B.{covered as covered_b, is_c3b, run as run_b};
 ghost use Rattle.roles_9798_4.specs.declared.c3.StageA.TheVariants.{Sent as SentA, Done as DoneA};
-ghost use Rattle.roles_9798_4.specs.declared.c3.StageB.TheVariants.{Start as StartB, Heard as HeardB};
+ghost use Rattle.roles_9798_4.specs.declared.c3.StageB.TheVariants.{Start as StartB};
+ghost use Rattle.roles_9798_4.specs.declared.c3.StageB.TheVariants.{Heard as HeardB};
 
 // Pass 1, A to B: Ta, X1, X2 in the clear, and a check of Ta, X1.
 // Pass 2, B to A: Tb, X3, X4 in the clear, and a check of Tb, X3.

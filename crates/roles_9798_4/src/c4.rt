@@ -9,8 +9,11 @@ ghost use Rattle.text_hooks.specs.Leading.{Leads, Refuses};
 ghost use Rattle.text_hooks.specs.Names.{key_of, opened_by};
 ghost use Rattle.roles_9798_4.specs.C4A.{covered as covered_a, is_c4a, run as run_a};
 ghost use Rattle.roles_9798_4.specs.C4B.{covered as covered_b, is_c4b, run as run_b};
-ghost use Rattle.roles_9798_4.specs.declared.c4.StageA.TheVariants.{Start as StartA, Heard as HeardA, Sent as SentA, Done as DoneA};
-ghost use Rattle.roles_9798_4.specs.declared.c4.StageB.TheVariants.{Asked as AskedB, Heard as HeardB};
+ghost use Rattle.roles_9798_4.specs.declared.c4.StageA.TheVariants.{Start as StartA};
+ghost use Rattle.roles_9798_4.specs.declared.c4.StageA.TheVariants.{Heard as HeardA, Sent as SentA};
+ghost use Rattle.roles_9798_4.specs.declared.c4.StageA.TheVariants.{Done as DoneA};
+ghost use Rattle.roles_9798_4.specs.declared.c4.StageB.TheVariants.{Asked as AskedB};
+ghost use Rattle.roles_9798_4.specs.declared.c4.StageB.TheVariants.{Heard as HeardB};
 
 // Pass 1, B to A: Rb, X1 in the clear.
 // Pass 2, A to B: Ra, X2, X3 in the clear, and a check of Ra, Rb, X2.

@@ -2,7 +2,10 @@ ghost use Rattle.std.specs.Prelude.{◌≡◌, ◌<◌, ◌^◌, [], Some, not, 
 ghost use Rattle.mech_rows.specs.Facts.{same_role};
 ghost use Rattle.script_text.specs.Reading.{Reads, ReadsExactly, bytes_at, upto};
 ghost use Rattle.script_text.specs.Lines.{is_offered};
-ghost use Rattle.script_text.specs.LineReading.{Gives, GivesExactly, mech_in, name_in, number_below, number_in, part_in, prefix_in, role_in, slot_at, slot_in, slot_of_digit, text_at, text_in, whole};
+ghost use Rattle.script_text.specs.LineReading.{Gives, GivesExactly, mech_in, name_in};
+ghost use Rattle.script_text.specs.LineReading.{number_below, number_in, part_in, prefix_in};
+ghost use Rattle.script_text.specs.LineReading.{role_in, slot_at, slot_in, slot_of_digit, text_at};
+ghost use Rattle.script_text.specs.LineReading.{text_in, whole};
 
 use crate::reading::{Malformed, ReadFault, Reader};
 use mech_rows::{Mech, Role, Slot};

@@ -1,11 +1,16 @@
-ghost use Rattle.std.specs.Prelude.{◌≡◌, ℕ, List, ◌∷◌, [], true, not, Err, IfOk, IfSome, IsNone, IsTrue, MatchResult, None, Some, is_some, map};
+ghost use Rattle.std.specs.Prelude.{◌≡◌, ℕ, List, ◌∷◌, [], true, not, Err, IfOk, IfSome, IsNone};
+ghost use Rattle.std.specs.Prelude.{IsTrue, MatchResult, None, Some, is_some, map};
 ghost use Rattle.std.specs.List.{count_by};
 ghost use Rattle.std.specs.Option.{option_copied};
 ghost use Rattle.term_values.specs.Trees.{Tree};
 ghost use Rattle.mech_rows.specs.Facts.{same_role};
 ghost use Rattle.mech_rows.specs.Found.{Once, found};
-ghost use Rattle.script_text.specs.LineReading.{Gives, GivesExactly, allow_words, five_words, four_words, IsGiveWords, IsGiven, IsGivenUnnamed, IsNoneGiven, open_words, pair_words, plain_words, texts_from, three_words, two_words};
-ghost use Rattle.script_text.specs.Lines.{IsLine, IsLineUnnamed, SaidAlike, Says, WrittenLine, is_blank, is_offered, is_silent, sends_text, words_of};
+ghost use Rattle.script_text.specs.LineReading.{Gives, GivesExactly, allow_words, five_words};
+ghost use Rattle.script_text.specs.LineReading.{four_words, IsGiveWords, IsGiven, IsGivenUnnamed};
+ghost use Rattle.script_text.specs.LineReading.{IsNoneGiven, open_words, pair_words, plain_words};
+ghost use Rattle.script_text.specs.LineReading.{texts_from, three_words, two_words};
+ghost use Rattle.script_text.specs.Lines.{IsLine, IsLineUnnamed, SaidAlike, Says, WrittenLine};
+ghost use Rattle.script_text.specs.Lines.{is_blank, is_offered, is_silent, sends_text, words_of};
 
 use crate::bad::BadLine;
 use crate::line::Line;
@@ -183,7 +188,8 @@ fn texts_after(
 ) -> Result<Vec<(Slot, Text)>, ReadFault>
     requires offered { IsTrue (is_offered mech) }
     requires once { Once so_far.items }
-    ensures texts { Gives (λ t. t.items) result (texts_from mech role so_far.items (map (λ w. w.now) words.now)) }
+    ensures texts { Gives (λ t. t.items) result
+        (texts_from mech role so_far.items (map (λ w. w.now) words.now)) }
     ensures once { IfOk result (λ t. Once t.items) }
 {
     match words {
@@ -203,7 +209,14 @@ fn texts_after(
 fn head(mech: Mech, role: Role, a: Name, b: Name) -> Result<RunHead, Malformed>
     requires offered { IsTrue (is_offered mech) }
     requires peer { IsTrue (not (same_role role Role.P)) }
-    ensures { MatchResult result (λ h. h ≡ record { mech = mech; role = role; a = a; b = b; p = None }) (λ _. ⊥) }
+    ensures { MatchResult result (λ h. h ≡ record {
+      mech = mech;
+      role = role;
+      a = a;
+      b = b;
+      p =
+          None;
+    }) (λ _. ⊥) }
 {
     match RunHead::new(mech, role, a, b, None) {
         Some(head) => Ok(head),
@@ -220,7 +233,8 @@ fn open(
     y: &[u8],
     rest: &[&[u8]],
 ) -> Result<Line, ReadFault>
-    ensures says { Gives (λ l. l) result (open_words m.now r.now x.now y.now (map (λ w. w.now) rest.now)) }
+    ensures says { Gives (λ l. l) result (open_words m.now r.now x.now y.now
+        (map (λ w. w.now) rest.now)) }
 {
     let mech = words::mech(m)?;
     let role = words::role(r)?;
@@ -271,8 +285,10 @@ fn plain(alloc: Global, words: &[&[u8]]) -> Result<Line, ReadFault>
 
 /// The run and the term of a line `give`.
 fn give_words<'w>(words: &[&'w [u8]]) -> Option<(&'w [u8], &'w [u8])>
-    ensures some { IfSome result (λ given. IsGiveWords (map (λ w. w.now) words.now) given.0.now given.1.now) }
-    ensures none { IsNone result → (run term : List ℕ) → IsGiveWords (map (λ w. w.now) words.now) run term → ⊥ }
+    ensures some { IfSome result (λ given. IsGiveWords
+        (map (λ w. w.now) words.now) given.0.now given.1.now) }
+    ensures none { IsNone result → (run term : List ℕ) →
+        IsGiveWords (map (λ w. w.now) words.now) run term → ⊥ }
 {
     match words {
         [verb, run, term] if *verb == b"give".as_slice() => Some((run, term)),
@@ -318,7 +334,8 @@ fn count_blanks(text: &[u8]) -> usize
 pub fn read_line(alloc: Global, text: &[u8], sent: &[Term]) -> Result<Line, BadLine>
     ensures ok { IfOk result (λ l. Says sent.now text.now l) }
     ensures reference { result ≡ Err BadLine.Reference → IsLineUnnamed sent.now text.now }
-    ensures grammar { result ≡ Err BadLine.Grammar → (w : WrittenLine) → IsLine sent.now text.now w → ⊥ }
+    ensures grammar { result ≡ Err BadLine.Grammar → (w : WrittenLine) →
+        IsLine sent.now text.now w → ⊥ }
 {
     if is_silent(text) {
         return Ok(Line::Empty);
@@ -335,5 +352,6 @@ pub fn read_line(alloc: Global, text: &[u8], sent: &[Term]) -> Result<Line, BadL
 
 /// What a line says is determined: two ways to write it say the same, and name what is there alike.
 pub fn one_line()
-    ensures { (sent : List Tree) (text : List ℕ) (v w : WrittenLine) → IsLine sent text v → IsLine sent text w → SaidAlike sent v w }
+    ensures { (sent : List Tree) (text : List ℕ) (v w : WrittenLine) → IsLine sent text v →
+        IsLine sent text w → SaidAlike sent v w }
 {}

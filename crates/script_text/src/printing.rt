@@ -2,7 +2,8 @@ ghost use Rattle.std.specs.Prelude.{◌≡◌, ◌∷◌, ◌++◌, ◌<◌, ◌
 ghost use Rattle.std.specs.Fmt.{decimal};
 ghost use Rattle.hex.specs.Hex.{IsBytes, encode_lower};
 ghost use Rattle.term_values.specs.Trees.{Tree, trees};
-ghost use Rattle.script_text.specs.Notation.{AreWellFormed, IsKeyOfParts, IsWellFormed, all_plain, key_notation, list_notation, notation, plain};
+ghost use Rattle.script_text.specs.Notation.{AreWellFormed, IsKeyOfParts, IsWellFormed, all_plain};
+ghost use Rattle.script_text.specs.Notation.{key_notation, list_notation, notation, plain};
 ghost use Rattle.script_text.specs.Printing.{comma_before};
 
 use std::alloc::Global;
@@ -29,7 +30,8 @@ fn put_digits(alloc: Global, out: &mut Vec<u8>, bytes: &[u8]) -> Result<(), OutO
 
 /// Appends a letter, a colon and the digits of some bytes.
 fn put_bytes(alloc: Global, out: &mut Vec<u8>, letter: u8, bytes: &[u8]) -> Result<(), OutOfMemory>
-    ensures written { OnOk result (out.new.items ≡ out.old.items ++ letter ∷ 58 ∷ encode_lower bytes.now) }
+    ensures written { OnOk result (out.new.items
+        ≡ out.old.items ++ letter ∷ 58 ∷ encode_lower bytes.now) }
     ensures bytes { IsBytes bytes.now }
 {
     out.push(letter)?;
@@ -38,7 +40,8 @@ fn put_bytes(alloc: Global, out: &mut Vec<u8>, letter: u8, bytes: &[u8]) -> Resu
 }
 
 fn put_key(alloc: Global, out: &mut Vec<u8>, key: &Key) -> Result<(), OutOfMemory>
-    ensures { OnOk result (IsKeyOfParts key.now × (out.new.items ≡ out.old.items ++ key_notation key.now)) }
+    ensures { OnOk result (IsKeyOfParts key.now
+        × (out.new.items ≡ out.old.items ++ key_notation key.now)) }
 {
     match key {
         Key::One(part) => put_bytes(alloc, out, b'K', part.list()),
@@ -53,7 +56,8 @@ fn put_key(alloc: Global, out: &mut Vec<u8>, key: &Key) -> Result<(), OutOfMemor
 /// Appends the notation of a term.
 #[cycle(put)]
 fn put(alloc: Global, out: &mut Vec<u8>, term: &Term) -> Result<(), OutOfMemory>
-    ensures { OnOk result (IsWellFormed (plain term.now) × (out.new.items ≡ out.old.items ++ notation (plain term.now))) }
+    ensures { OnOk result (IsWellFormed (plain term.now)
+        × (out.new.items ≡ out.old.items ++ notation (plain term.now))) }
 {
     match term.form() {
         Form::Name(name) => put_number(alloc, out, b'N', u64::from(name.get())),
@@ -78,7 +82,9 @@ fn put_sealed(
     key: &Key,
     body: &Term,
 ) -> Result<(), OutOfMemory>
-    ensures { OnOk result (IsKeyOfParts key.now × IsWellFormed (plain body.now) × (out.new.items ≡ out.old.items ++ letter ∷ 91 ∷ (key_notation key.now ++ 124 ∷ (notation (plain body.now) ++ 93 ∷ [])))) }
+    ensures { OnOk result (IsKeyOfParts key.now × IsWellFormed (plain body.now)
+        × (out.new.items ≡ out.old.items ++ letter ∷ 91 ∷
+        (key_notation key.now ++ 124 ∷ (notation (plain body.now) ++ 93 ∷ [])))) }
 {
     out.push(letter)?;
     out.push(b'[')?;
@@ -91,7 +97,9 @@ fn put_sealed(
 
 #[cycle(put)]
 fn put_tuple(alloc: Global, out: &mut Vec<u8>, items: &[Term]) -> Result<(), OutOfMemory>
-    ensures { OnOk result (AreWellFormed (all_plain (trees items.now)) × (out.new.items ≡ out.old.items ++ 40 ∷ (list_notation (all_plain (trees items.now)) ++ 41 ∷ []))) }
+    ensures { OnOk result (AreWellFormed (all_plain (trees items.now))
+        × (out.new.items ≡ out.old.items ++ 40 ∷
+        (list_notation (all_plain (trees items.now)) ++ 41 ∷ []))) }
 {
     out.push(b'(')?;
     put_items(alloc, out, items)?;
@@ -112,7 +120,8 @@ fn put_comma(out: &mut Vec<u8>, place: usize) -> Result<(), OutOfMemory>
 #[cycle(put)]
 #[tactic(auto, using(term_values::proofs::Trees::item_smaller))]
 fn put_items(alloc: Global, out: &mut Vec<u8>, items: &[Term]) -> Result<(), OutOfMemory>
-    ensures { OnOk result (AreWellFormed (all_plain (trees items.now)) × (out.new.items ≡ out.old.items ++ list_notation (all_plain (trees items.now)))) }
+    ensures { OnOk result (AreWellFormed (all_plain (trees items.now))
+        × (out.new.items ≡ out.old.items ++ list_notation (all_plain (trees items.now)))) }
 {
     for (place, item) in items.iter().enumerate() {
         put_comma(out, place)?;
@@ -138,5 +147,6 @@ pub fn print_term(alloc: Global, term: &Term) -> Result<Vec<u8>, OutOfMemory>
 /// No two terms share a printed form.
 #[tactic(auto, using(crate::proofs::Readings::one_term))]
 pub fn one_form()
-    ensures { (t u : Tree) → IsWellFormed (plain t) → IsWellFormed (plain u) → notation (plain t) ≡ notation (plain u) → t ≡ u }
+    ensures { (t u : Tree) → IsWellFormed (plain t) → IsWellFormed (plain u) →
+        notation (plain t) ≡ notation (plain u) → t ≡ u }
 {}

@@ -1,11 +1,17 @@
-ghost use Rattle.std.specs.Prelude.{◌≡◌, ◌+◌, ◌<◌, Some, suc, ◌≤◌, ◌*◌, ◌^◌, ℕ, List, length, slice_get, take, drop, IfOk, IfSome, IsNone, IsTrue, MatchOption};
+ghost use Rattle.std.specs.Prelude.{◌≡◌, ◌+◌, ◌<◌, Some, suc, ◌≤◌, ◌*◌, ◌^◌, ℕ, List, length};
+ghost use Rattle.std.specs.Prelude.{slice_get, take, drop, IfOk, IfSome, IsNone, IsTrue};
+ghost use Rattle.std.specs.Prelude.{MatchOption};
 ghost use Rattle.std.specs.List.{list_all, prefix_len};
 ghost use Rattle.std.specs.Char.{is_ascii_digit};
 ghost use Rattle.std.specs.Option.{option_copied};
 ghost use Rattle.term_values.specs.Lengths.{length_of};
 ghost use Rattle.term_values.specs.TreeOf.{tree_of};
 ghost use Rattle.script_text.specs.Notation.{is_numeral, item_named, message_named, value_of};
-ghost use Rattle.script_text.specs.Reading.{Reads, ReadsExactly, State, atom_at, byte_at, bytes_at, digits_of, found_at, is_lower_digit, items_at, just, key_at, lent_at, limits, mark_at, name_at, number_at, numeral_at, sealed_at, second_at, sent_at, skip_at, state, term_in, term_under, tuple_at, upto};
+ghost use Rattle.script_text.specs.Reading.{Reads, ReadsExactly, State, atom_at, byte_at, bytes_at};
+ghost use Rattle.script_text.specs.Reading.{digits_of, found_at, is_lower_digit, items_at, just};
+ghost use Rattle.script_text.specs.Reading.{key_at, lent_at, limits, mark_at, name_at, number_at};
+ghost use Rattle.script_text.specs.Reading.{numeral_at, sealed_at, second_at, sent_at, skip_at};
+ghost use Rattle.script_text.specs.Reading.{state, term_in, term_under, tuple_at, upto};
 
 use hex::FromHexError;
 use std::alloc::{AllocError, AllocFailed, Global};
@@ -125,7 +131,8 @@ pub(crate) fn value_of(word: &[u8]) -> Option<u64>
 
 /// The number where it has 32 bits.
 pub(crate) fn narrow(number: Option<u64>) -> Option<u32>
-    ensures { MatchOption result (MatchOption number (Unit {0}) (λ n. 2 ^ 32 ≤ n)) (λ n. number ≡ Some n) }
+    ensures { MatchOption result (MatchOption number (Unit {0}) (λ n. 2 ^ 32 ≤ n))
+        (λ n. number ≡ Some n) }
 {
     u32::try_from(number?).ok()
 }
@@ -163,7 +170,8 @@ fn item<'s>(sent: &'s [Term], number: &[u8], place: &[u8]) -> Option<&'s Term>
 /// What is left of so many bytes after the layouts of a term; None exactly where they take more. Their
 /// sum is found by halving.
 fn left_after(term: &Term, most: u32) -> Option<u32>
-    ensures { MatchOption result (most < length_of term.now) (λ left. left + length_of term.now ≡ most) }
+    ensures { MatchOption result (most < length_of term.now)
+        (λ left. left + length_of term.now ≡ most) }
 {
     if !term.within(most) {
         return None;
@@ -207,7 +215,8 @@ fn found(
     levels: u32,
 ) -> Result<Term, ReadFault>
     requires { levels ≤ 8 }
-    ensures { Reads (λ t. t) result marks.new (found_at levels (option_copied found.entry) marks.old) }
+    ensures { Reads (λ t. t) result marks.new
+        (found_at levels (option_copied found.entry) marks.old) }
 {
     match found {
         Some(term) => lent(alloc, term, marks, levels),
@@ -283,7 +292,8 @@ impl<'a> Reader<'a> {
     #[tactic(auto, using(crate::proofs::Digits::sized_is), unfolding(crate::specs::Reading::bytes_at))]
     fn fill(&mut self, count: usize, out: &mut [u8]) -> Result<(), Malformed>
         requires { count ≡ 2 * length out.old }
-        ensures { ReadsExactly (λ _. out.new) result self.new.rest.now (bytes_at (just count) self.old.rest.now) }
+        ensures { ReadsExactly (λ _. out.new) result self.new.rest.now
+            (bytes_at (just count) self.old.rest.now) }
     {
         if count_digits(self.rest) != count {
             return Err(Malformed);
@@ -297,7 +307,8 @@ impl<'a> Reader<'a> {
     /// Takes the bytes whose digits are in front, of which there may be so many.
     #[tactic(auto, using(crate::proofs::Digits::decoded_length), unfolding(crate::specs::Reading::bytes_at))]
     fn bytes(&mut self, alloc: Global, most: usize) -> Result<Vec<u8>, ReadFault>
-        ensures read { Reads (λ b. b.items) result self.new.rest.now (bytes_at (upto most) self.old.rest.now) }
+        ensures read { Reads (λ b. b.items) result self.new.rest.now
+            (bytes_at (upto most) self.old.rest.now) }
         ensures short { IfOk result (λ b. 2 * length b.items ≤ most) }
     {
         let count = count_digits(self.rest);
@@ -313,7 +324,8 @@ impl<'a> Reader<'a> {
 
     #[tactic(auto, unfolding(crate::specs::Reading::numeral_at))]
     fn numeral(&mut self) -> Result<&'a [u8], Malformed>
-        ensures read { ReadsExactly (λ b. b.now) result self.new.rest.now (numeral_at self.old.rest.now) }
+        ensures read { ReadsExactly (λ b. b.now) result self.new.rest.now
+            (numeral_at self.old.rest.now) }
         ensures digits { IfOk result (λ b. IsTrue (is_numeral b.now)) }
     {
         let count = count_decimals(self.rest);
@@ -327,7 +339,8 @@ impl<'a> Reader<'a> {
     /// Takes a number below 2 ^ 64.
     #[tactic(auto, unfolding(crate::specs::Reading::number_at))]
     pub(crate) fn u64(&mut self) -> Result<u64, Malformed>
-        ensures { ReadsExactly (λ n. n) result self.new.rest.now (number_at (2 ^ 64) self.old.rest.now) }
+        ensures { ReadsExactly (λ n. n) result self.new.rest.now
+            (number_at (2 ^ 64) self.old.rest.now) }
     {
         let digits = self.numeral()?;
         match value_of(digits) {
@@ -338,7 +351,8 @@ impl<'a> Reader<'a> {
 
     #[tactic(auto, unfolding(crate::specs::Reading::name_at, crate::specs::Reading::number_at))]
     fn name(&mut self) -> Result<Form, Malformed>
-        ensures { ReadsExactly (λ f. tree_of f) result self.new.rest.now (name_at self.old.rest.now) }
+        ensures { ReadsExactly (λ f. tree_of f) result self.new.rest.now
+            (name_at self.old.rest.now) }
     {
         let number = self.u32()?;
         match Name::new(number) {
@@ -350,7 +364,8 @@ impl<'a> Reader<'a> {
     /// Takes a number below 2 ^ 32.
     #[tactic(auto, unfolding(crate::specs::Reading::number_at))]
     pub(crate) fn u32(&mut self) -> Result<u32, Malformed>
-        ensures { ReadsExactly (λ n. n) result self.new.rest.now (number_at (2 ^ 32) self.old.rest.now) }
+        ensures { ReadsExactly (λ n. n) result self.new.rest.now
+            (number_at (2 ^ 32) self.old.rest.now) }
     {
         let digits = self.numeral()?;
         match narrow(value_of(digits)) {
@@ -360,7 +375,8 @@ impl<'a> Reader<'a> {
     }
 
     pub(crate) fn part(&mut self) -> Result<Part, Malformed>
-        ensures { ReadsExactly (λ p. p) result self.new.rest.now (bytes_at (just 64) self.old.rest.now) }
+        ensures { ReadsExactly (λ p. p) result self.new.rest.now
+            (bytes_at (just 64) self.old.rest.now) }
     {
         let mut part = [0; 32];
         self.fill(64, &mut part)?;
@@ -368,7 +384,8 @@ impl<'a> Reader<'a> {
     }
 
     fn nonce(&mut self) -> Result<Nonce, Malformed>
-        ensures { ReadsExactly (λ n. n) result self.new.rest.now (bytes_at (just 32) self.old.rest.now) }
+        ensures { ReadsExactly (λ n. n) result self.new.rest.now
+            (bytes_at (just 32) self.old.rest.now) }
     {
         let mut nonce = [0; 16];
         self.fill(32, &mut nonce)?;
@@ -376,7 +393,8 @@ impl<'a> Reader<'a> {
     }
 
     fn tag(&mut self) -> Result<Tag, Malformed>
-        ensures { ReadsExactly (λ t. t) result self.new.rest.now (bytes_at (just 8) self.old.rest.now) }
+        ensures { ReadsExactly (λ t. t) result self.new.rest.now
+            (bytes_at (just 8) self.old.rest.now) }
     {
         let mut tag = [0; 4];
         self.fill(8, &mut tag)?;
@@ -396,7 +414,8 @@ impl<'a> Reader<'a> {
     /// Takes the rest of a key, of which the first part is known.
     #[tactic(auto, unfolding(crate::specs::Reading::second_at))]
     fn second(&mut self, first: Part) -> Result<Key, Malformed>
-        ensures { ReadsExactly (λ k. k) result self.new.rest.now (second_at first self.old.rest.now) }
+        ensures { ReadsExactly (λ k. k) result self.new.rest.now
+            (second_at first self.old.rest.now) }
     {
         if !self.skips(b'+') {
             return Ok(Key::One(first));
@@ -418,7 +437,8 @@ impl<'a> Reader<'a> {
     /// Takes what follows a letter and a colon.
     #[tactic(auto, unfolding(crate::specs::Reading::atom_at))]
     fn atom(&mut self, alloc: Global, letter: u8) -> Result<Form, ReadFault>
-        ensures { Reads (λ f. tree_of f) result self.new.rest.now (atom_at 8192 letter self.old.rest.now) }
+        ensures { Reads (λ f. tree_of f) result self.new.rest.now
+            (atom_at 8192 letter self.old.rest.now) }
     {
         match letter {
             b'N' => Ok(self.name()?),
@@ -444,7 +464,8 @@ impl<'a> Reader<'a> {
         levels: u32,
     ) -> Result<Term, ReadFault>
         requires { levels ≤ 8 }
-        ensures { Reads (λ t. t) result (state self.new.rest.now marks.new) (term_in sent.now levels (state self.old.rest.now marks.old)) }
+        ensures { Reads (λ t. t) result (state self.new.rest.now marks.new)
+            (term_in sent.now levels (state self.old.rest.now marks.old)) }
     {
         if levels == 0 {
             return Err(ReadFault::Malformed);
@@ -465,7 +486,8 @@ impl<'a> Reader<'a> {
         letter: u8,
     ) -> Result<Term, ReadFault>
         requires { below < 8 }
-        ensures { Reads (λ t. t) result (state self.new.rest.now marks.new) (term_under sent.now below letter (state self.old.rest.now marks.old)) }
+        ensures { Reads (λ t. t) result (state self.new.rest.now marks.new)
+            (term_under sent.now below letter (state self.old.rest.now marks.old)) }
     {
         match letter {
             b'(' => {
@@ -499,7 +521,8 @@ impl<'a> Reader<'a> {
         below: u32,
     ) -> Result<(Key, Box<Term>), ReadFault>
         requires { below ≤ 8 }
-        ensures { Reads (λ s. (s.0, s.1.value)) result (state self.new.rest.now marks.new) (sealed_at (term_in sent.now below) (state self.old.rest.now marks.old)) }
+        ensures { Reads (λ s. (s.0, s.1.value)) result (state self.new.rest.now marks.new)
+            (sealed_at (term_in sent.now below) (state self.old.rest.now marks.old)) }
     {
         self.mark(b'[')?;
         let key = self.key()?;
@@ -518,7 +541,8 @@ impl<'a> Reader<'a> {
         below: u32,
     ) -> Result<Box<Term>, ReadFault>
         requires { below ≤ 8 }
-        ensures { Reads (λ t. t.value) result (state self.new.rest.now marks.new) (term_in sent.now below (state self.old.rest.now marks.old)) }
+        ensures { Reads (λ t. t.value) result (state self.new.rest.now marks.new)
+            (term_in sent.now below (state self.old.rest.now marks.old)) }
     {
         let body = self.term(alloc, sent, marks, below)?;
         Ok(Box::new(alloc, body)?)
@@ -534,7 +558,8 @@ impl<'a> Reader<'a> {
         below: u32,
     ) -> Result<Vec<Term>, ReadFault>
         requires { below ≤ 8 }
-        ensures { Reads (λ items. items.items) result (state self.new.rest.now marks.new) (tuple_at (term_in sent.now below) 32 (state self.old.rest.now marks.old)) }
+        ensures { Reads (λ items. items.items) result (state self.new.rest.now marks.new)
+            (tuple_at (term_in sent.now below) 32 (state self.old.rest.now marks.old)) }
     {
         if self.skips(b')') {
             return Ok(Vec::new(alloc));
@@ -551,7 +576,8 @@ impl<'a> Reader<'a> {
         below: u32,
     ) -> Result<Vec<Term>, ReadFault>
         requires { below ≤ 8 }
-        ensures { Reads (λ items. items.items) result (state self.new.rest.now marks.new) (items_at (term_in sent.now below) 32 (state self.old.rest.now marks.old)) }
+        ensures { Reads (λ items. items.items) result (state self.new.rest.now marks.new)
+            (items_at (term_in sent.now below) 32 (state self.old.rest.now marks.old)) }
     {
         let mut items = Vec::new(alloc);
         for _ in 0..ITEMS_MAX {
@@ -576,7 +602,8 @@ impl<'a> Reader<'a> {
         levels: u32,
     ) -> Result<Term, ReadFault>
         requires { levels ≤ 8 }
-        ensures { Reads (λ t. t) result (state self.new.rest.now marks.new) (sent_at sent.now levels (state self.old.rest.now marks.old)) }
+        ensures { Reads (λ t. t) result (state self.new.rest.now marks.new)
+            (sent_at sent.now levels (state self.old.rest.now marks.old)) }
     {
         let number = self.numeral()?;
         if !self.skips(b'.') {

@@ -1,7 +1,8 @@
 ghost use Rattle.std.specs.Prelude.{◌≡◌, ◌∷◌, ◌++◌, OnOk, IfOk};
 ghost use Rattle.std.specs.Fmt.{decimal};
 ghost use Rattle.script_text.specs.Notation.{stamp_notation};
-ghost use Rattle.script_text.specs.Refusals.{field, refusal_fields, refusal_name, refusal_text, slot_name, why_name};
+ghost use Rattle.script_text.specs.Refusals.{field, refusal_fields, refusal_name, refusal_text};
+ghost use Rattle.script_text.specs.Refusals.{slot_name, why_name};
 
 use mech_rows::{Refusal, Slot};
 use std::alloc::Global;

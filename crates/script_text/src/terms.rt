@@ -2,7 +2,8 @@ ghost use Rattle.std.specs.Prelude.{◌≡◌, ◌↔◌, ◌==◌, ℕ, List, I
 ghost use Rattle.std.specs.List.{count_by};
 ghost use Rattle.term_values.specs.Trees.{Tree};
 ghost use Rattle.tagged_codec.specs.Grammar.{IsInLimits};
-ghost use Rattle.script_text.specs.Notation.{IsReadAs, IsReadUnnamed, IsReading, ReadAlike, Written};
+ghost use Rattle.script_text.specs.Notation.{IsReadAs, IsReadUnnamed, IsReading, ReadAlike};
+ghost use Rattle.script_text.specs.Notation.{Written};
 
 use crate::bad::BadLine;
 use crate::reading::{Marks, ReadFault, Reader};
@@ -47,7 +48,8 @@ fn count_commas(text: &[u8]) -> usize
 pub fn read_term(alloc: Global, text: &[u8], sent: &[Term]) -> Result<Term, BadLine>
     ensures ok { IfOk result (λ t. IsReadAs sent.now text.now t) }
     ensures reference { result ≡ Err BadLine.Reference → IsReadUnnamed sent.now text.now }
-    ensures grammar { result ≡ Err BadLine.Grammar → (w : Written) → IsReading sent.now text.now w → ⊥ }
+    ensures grammar { result ≡ Err BadLine.Grammar → (w : Written) → IsReading sent.now text.now w →
+        ⊥ }
 {
     if count_commas(text) > SPELLING_MAX as usize {
         return Err(BadLine::Grammar);
@@ -72,5 +74,6 @@ pub fn read_term(alloc: Global, text: &[u8], sent: &[Term]) -> Result<Term, BadL
 
 /// What a text says is determined: two readings of it give one term, and name what is there alike.
 pub fn one_reading()
-    ensures { (sent : List Tree) (bytes : List ℕ) (v w : Written) → IsReading sent bytes v → IsReading sent bytes w → ReadAlike sent v w }
+    ensures { (sent : List Tree) (bytes : List ℕ) (v w : Written) → IsReading sent bytes v →
+        IsReading sent bytes w → ReadAlike sent v w }
 {}

@@ -42,10 +42,13 @@ fn reason(why: Why, length: usize) -> Why
 /// The term whose spelling begins the bytes, and the length of the spelling. `Malformed` exactly where no front of the
 /// bytes is a spelling.
 pub fn decode(alloc: Global, bytes: &[u8]) -> Result<(Term, usize), DecodeFault>
-    ensures found { IfOk result (λ f. (f.1 ≤ length bytes.now) × IsSpelling f.0 (take f.1 bytes.now)) }
-    ensures malformed { (place : ℕ) (why : Why) → result ≡ Err (DecodeFault.Malformed place why) → IsFault bytes.now place why }
+    ensures found { IfOk result (λ f. (f.1 ≤ length bytes.now)
+        × IsSpelling f.0 (take f.1 bytes.now)) }
+    ensures malformed { (place : ℕ) (why : Why) → result ≡ Err (DecodeFault.Malformed place why) →
+        IsFault bytes.now place why }
     // What was encoded is read again, whatever follows it, unless memory runs out.
-    ensures again { (t : Tree) (text rest : List ℕ) → IsSpelling t text → bytes.now ≡ text ++ rest → MatchResult result (λ f. (f.0 ≡ t) × (f.1 ≡ length text)) (λ e. e ≡ DecodeFault.Memory) }
+    ensures again { (t : Tree) (text rest : List ℕ) → IsSpelling t text → bytes.now ≡ text ++ rest →
+        MatchResult result (λ f. (f.0 ≡ t) × (f.1 ≡ length text)) (λ e. e ≡ DecodeFault.Memory) }
 {
     let front = first_bytes(bytes);
     let mut reader = Reader { rest: front };
@@ -71,9 +74,11 @@ pub fn decode(alloc: Global, bytes: &[u8]) -> Result<(Term, usize), DecodeFault>
 /// front of them is one.
 pub fn decode_whole(alloc: Global, bytes: &[u8]) -> Result<Term, DecodeFault>
     ensures found { IfOk result (λ t. IsSpelling t bytes.now) }
-    ensures malformed { (place : ℕ) (why : Why) → result ≡ Err (DecodeFault.Malformed place why) → IsWholeFault bytes.now place why }
+    ensures malformed { (place : ℕ) (why : Why) → result ≡ Err (DecodeFault.Malformed place why) →
+        IsWholeFault bytes.now place why }
     // What was encoded is read again, unless memory runs out.
-    ensures again { (t : Tree) → IsSpelling t bytes.now → MatchResult result (λ u. u ≡ t) (λ e. e ≡ DecodeFault.Memory) }
+    ensures again { (t : Tree) → IsSpelling t bytes.now →
+        MatchResult result (λ u. u ≡ t) (λ e. e ≡ DecodeFault.Memory) }
 {
     let (term, used) = decode(alloc, bytes)?;
     let left = bytes.len() - used;

@@ -1,4 +1,6 @@
-ghost use Rattle.std.specs.Prelude.{◌≡◌, ◌↔◌, ◌<◌, ◌≤◌, ◌++◌, ℕ, List, [], length, drop, Ok, Err, Some, None, IfOk, IfSome, IfNone, OnOk, OnErr, MatchOption, MatchResult};
+ghost use Rattle.std.specs.Prelude.{◌≡◌, ◌↔◌, ◌<◌, ◌≤◌, ◌++◌, ℕ, List, [], length, drop, Ok, Err};
+ghost use Rattle.std.specs.Prelude.{Some, None, IfOk, IfSome, IfNone, OnOk, OnErr, MatchOption};
+ghost use Rattle.std.specs.Prelude.{MatchResult};
 ghost use Rattle.tagged_codec.specs.Frames.{frame_of, HoldsNoFrame, IsTooLong, TakesFirst};
 
 use crate::kinds::SPELLING_MAX;
@@ -40,7 +42,9 @@ pub fn frame(alloc: Global, message: &[u8]) -> Result<Vec<u8>, OutOfMemory>
 
 /// The first message that the bytes hold whole, or the length above 8,192 that they announce.
 fn first_message(bytes: &[u8]) -> Result<Option<&[u8]>, u16>
-    ensures whole { IfOk result (λ first. MatchOption first (HoldsNoFrame bytes.now) (λ message. TakesFirst bytes.now message.now (drop (length (frame_of message.now)) bytes.now))) }
+    ensures whole { IfOk result (λ first. MatchOption first (HoldsNoFrame bytes.now)
+        (λ message. TakesFirst bytes.now message.now
+        (drop (length (frame_of message.now)) bytes.now))) }
     ensures long { (n : ℕ) → (result ≡ Err n) ↔ IsTooLong bytes.now n }
     ensures few { result ≡ Ok None → length bytes.now < 8194 }
 {
@@ -111,7 +115,8 @@ impl Deframer {
     /// length above 8,192; they are then fewer than 8,194. After an `Err`, for want of memory too, they stay as they
     /// were, so after `TooLong` each later call answers the same.
     pub fn next(&mut self) -> Result<Option<Vec<u8>>, FrameFault>
-        ensures taken { IfOk result (λ first. IfSome first (λ message. TakesFirst self.old message.items self.new)) }
+        ensures taken { IfOk result (λ first.
+            IfSome first (λ message. TakesFirst self.old message.items self.new)) }
         ensures none { result ≡ Ok None → HoldsNoFrame self.old × (self.new ≡ self.old) }
         ensures few { result ≡ Ok None → length self.new < 8194 }
         ensures long { (n : ℕ) → (result ≡ Err (FrameFault.TooLong n)) ↔ IsTooLong self.old n }

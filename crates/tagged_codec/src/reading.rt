@@ -1,7 +1,9 @@
 ghost use Rattle.std.specs.Prelude.{◌≡◌, ◌<◌, ◌≤◌, ℕ, List, [], length, IfOk};
 ghost use Rattle.std.specs.Int.{w64};
 ghost use Rattle.term_values.specs.TreeOf.{tree_of};
-ghost use Rattle.tagged_codec.specs.Reading.{Reads, byte_at, bytes_at, items_at, key_at, key_under, tree_under, name_at, number_at, sealed_at, sized_at, term_at, tuple_at};
+ghost use Rattle.tagged_codec.specs.Reading.{Reads, byte_at, bytes_at, items_at, key_at, key_under};
+ghost use Rattle.tagged_codec.specs.Reading.{tree_under, name_at, number_at, sealed_at, sized_at};
+ghost use Rattle.tagged_codec.specs.Reading.{term_at, tuple_at};
 
 use crate::kinds;
 use crate::kinds::{BLOB_MAX, ITEMS_MAX, TEXT_MAX};
@@ -67,7 +69,8 @@ impl<'a> Reader<'a> {
 
     #[tactic(auto, unfolding(crate::specs::Reading::bytes_at))]
     fn bytes(&mut self, count: usize) -> Result<&'a [u8], ReadFault>
-        ensures read { Reads (λ b. b.now) result self.new.rest.now (bytes_at count self.old.rest.now) }
+        ensures read { Reads (λ b. b.now) result self.new.rest.now
+            (bytes_at count self.old.rest.now) }
         ensures count { IfOk result (λ b. length b.now ≡ count) }
     {
         if self.rest.len() < count {
@@ -103,7 +106,8 @@ impl<'a> Reader<'a> {
     /// most, whatever follows.
     #[tactic(auto, unfolding(crate::specs::Reading::sized_at))]
     fn sized(&mut self, most: usize, why: Why) -> Result<&'a [u8], ReadFault>
-        ensures read { Reads (λ b. b.now) result self.new.rest.now (sized_at most why self.old.rest.now) }
+        ensures read { Reads (λ b. b.now) result self.new.rest.now
+            (sized_at most why self.old.rest.now) }
         ensures short { IfOk result (λ b. length b.now ≤ most) }
     {
         let start = self.rest;
@@ -176,7 +180,8 @@ impl<'a> Reader<'a> {
     }
 
     fn text(&mut self, alloc: Global) -> Result<Text, ReadFault>
-        ensures { Reads (λ t. t) result self.new.rest.now (sized_at 1024 Why.LongText self.old.rest.now) }
+        ensures { Reads (λ t. t) result self.new.rest.now
+            (sized_at 1024 Why.LongText self.old.rest.now) }
     {
         let start = self.rest;
         let bytes = self.sized(TEXT_MAX, Why::LongText)?;
@@ -187,7 +192,8 @@ impl<'a> Reader<'a> {
     }
 
     fn blob(&mut self, alloc: Global) -> Result<Bytes, ReadFault>
-        ensures { Reads (λ b. b) result self.new.rest.now (sized_at 4096 Why.LongBlob self.old.rest.now) }
+        ensures { Reads (λ b. b) result self.new.rest.now
+            (sized_at 4096 Why.LongBlob self.old.rest.now) }
     {
         let bytes = self.sized(BLOB_MAX, Why::LongBlob)?;
         Ok(Bytes::new(Vec::from_slice(alloc, bytes)?))
@@ -216,7 +222,8 @@ impl<'a> Reader<'a> {
         kind: u8,
         below: u32,
     ) -> Result<Form, ReadFault>
-        ensures { Reads (λ f. tree_of f) result self.new.rest.now (tree_under (term_at below) below start.now kind self.old.rest.now) }
+        ensures { Reads (λ f. tree_of f) result self.new.rest.now
+            (tree_under (term_at below) below start.now kind self.old.rest.now) }
     {
         match kind {
             kinds::NAME => self.name(),
@@ -248,7 +255,8 @@ impl<'a> Reader<'a> {
         start: &'a [u8],
         below: u32,
     ) -> Result<(Key, Box<Term>), ReadFault>
-        ensures { Reads (λ s. (s.0, s.1.value)) result self.new.rest.now (sealed_at (term_at below) below start.now self.old.rest.now) }
+        ensures { Reads (λ s. (s.0, s.1.value)) result self.new.rest.now
+            (sealed_at (term_at below) below start.now self.old.rest.now) }
     {
         if below == 0 {
             return Err(self.refuse(start, Why::Deep));
@@ -261,7 +269,8 @@ impl<'a> Reader<'a> {
     #[cycle(read)]
     #[tactic(auto, unfolding(crate::specs::Reading::tuple_at))]
     fn tuple(&mut self, alloc: Global, below: u32) -> Result<Vec<Term>, ReadFault>
-        ensures { Reads (λ items. items.items) result self.new.rest.now (tuple_at (term_at below) below self.old.rest.now) }
+        ensures { Reads (λ items. items.items) result self.new.rest.now
+            (tuple_at (term_at below) below self.old.rest.now) }
     {
         let at = self.rest;
         let count = self.byte()?;
@@ -280,7 +289,8 @@ impl<'a> Reader<'a> {
     #[cycle(read)]
     fn items(&mut self, alloc: Global, count: u8, below: u32) -> Result<Vec<Term>, ReadFault>
         requires { 0 < below }
-        ensures { Reads (λ items. items.items) result self.new.rest.now (items_at (term_at below) count self.old.rest.now) }
+        ensures { Reads (λ items. items.items) result self.new.rest.now
+            (items_at (term_at below) count self.old.rest.now) }
     {
         let mut items = Vec::new(alloc);
         for _ in 0..count {

@@ -1,7 +1,9 @@
-ghost use Rattle.std.specs.Prelude.{◌≡◌, ◌+◌, ◌<◌, ◌≤◌, ◌^◌, List, ℕ, [], ◌∷◌, ◌++◌, length, OnOk, IfOk, Err};
+ghost use Rattle.std.specs.Prelude.{◌≡◌, ◌+◌, ◌<◌, ◌≤◌, ◌^◌, List, ℕ, [], ◌∷◌, ◌++◌, length, OnOk};
+ghost use Rattle.std.specs.Prelude.{IfOk, Err};
 ghost use Rattle.term_values.specs.Trees.{count_of, trees};
 ghost use Rattle.term_values.specs.Limits.{AllFit, Fits, IsKey};
-ghost use Rattle.tagged_codec.specs.Grammar.{IsInLimits, IsSpelling, key_spelling, sized_spelling, spelling, spellings};
+ghost use Rattle.tagged_codec.specs.Grammar.{IsInLimits, IsSpelling, key_spelling, sized_spelling};
+ghost use Rattle.tagged_codec.specs.Grammar.{spelling, spellings};
 
 use crate::kinds;
 use crate::kinds::{BLOB_MAX, ITEMS_MAX, LEVELS_MAX, SPELLING_MAX};
@@ -59,7 +61,8 @@ fn put_sized(out: &mut Vec<u8>, kind: u8, bytes: &[u8]) -> Result<(), OutOfMemor
 
 /// Appends the spelling of a key.
 fn put_key(out: &mut Vec<u8>, key: &Key) -> Result<(), OutOfMemory>
-    ensures { OnOk result (IsKey key.now × (out.new.items ≡ out.old.items ++ key_spelling key.now)) }
+    ensures { OnOk result (IsKey key.now × (out.new.items
+        ≡ out.old.items ++ key_spelling key.now)) }
 {
     match key {
         Key::One(part) => put_plain(out, kinds::KEY_ONE, part.list()),
@@ -81,7 +84,8 @@ pub fn encode_key(alloc: Global, key: &Key) -> Result<Vec<u8>, OutOfMemory>
 
 /// Appends the spelling of a blob, where it has one.
 fn put_blob(out: &mut Vec<u8>, bytes: &[u8]) -> Result<(), EncodeFault>
-    ensures ok { OnOk result ((length bytes.now ≤ 4096) × (out.new.items ≡ out.old.items ++ 0x0d ∷ sized_spelling bytes.now)) }
+    ensures ok { OnOk result ((length bytes.now ≤ 4096)
+        × (out.new.items ≡ out.old.items ++ 0x0d ∷ sized_spelling bytes.now)) }
     ensures large { result ≡ Err EncodeFault.TooLarge → 4096 < length bytes.now }
 {
     if bytes.len() > BLOB_MAX {
@@ -94,7 +98,8 @@ fn put_blob(out: &mut Vec<u8>, bytes: &[u8]) -> Result<(), EncodeFault>
 /// Appends the spelling of a term, where its parts are within their own limits.
 #[cycle(put)]
 fn put(out: &mut Vec<u8>, term: &Term) -> Result<(), EncodeFault>
-    ensures ok { OnOk result (Fits term.now × (out.new.items ≡ out.old.items ++ spelling term.now)) }
+    ensures ok { OnOk result (Fits term.now ×
+        (out.new.items ≡ out.old.items ++ spelling term.now)) }
     ensures large { result ≡ Err EncodeFault.TooLarge → Fits term.now → ⊥ }
 {
     match term.form() {
@@ -116,7 +121,8 @@ fn put(out: &mut Vec<u8>, term: &Term) -> Result<(), EncodeFault>
 /// Appends the spelling of a seal or of a check.
 #[cycle(put)]
 fn put_sealed(out: &mut Vec<u8>, kind: u8, key: &Key, body: &Term) -> Result<(), EncodeFault>
-    ensures ok { OnOk result (IsKey key.now × Fits body.now × (out.new.items ≡ out.old.items ++ kind ∷ key_spelling key.now ++ spelling body.now)) }
+    ensures ok { OnOk result (IsKey key.now × Fits body.now
+        × (out.new.items ≡ out.old.items ++ kind ∷ key_spelling key.now ++ spelling body.now)) }
     ensures large { result ≡ Err EncodeFault.TooLarge → Fits body.now → ⊥ }
 {
     out.push(kind)?;
@@ -128,8 +134,11 @@ fn put_sealed(out: &mut Vec<u8>, kind: u8, key: &Key, body: &Term) -> Result<(),
 #[cycle(put)]
 #[tactic(auto, using(term_values::proofs::Trees::count_trees))]
 fn put_tuple(out: &mut Vec<u8>, items: &[Term]) -> Result<(), EncodeFault>
-    ensures ok { OnOk result ((count_of (trees items.now) ≤ 32) × AllFit (trees items.now) × (out.new.items ≡ out.old.items ++ 0x08 ∷ count_of (trees items.now) ∷ spellings (trees items.now))) }
-    ensures large { result ≡ Err EncodeFault.TooLarge → count_of (trees items.now) ≤ 32 → AllFit (trees items.now) → ⊥ }
+    ensures ok { OnOk result ((count_of (trees items.now) ≤ 32) × AllFit (trees items.now)
+        × (out.new.items ≡ out.old.items ++ 0x08 ∷ count_of (trees items.now) ∷ spellings
+        (trees items.now))) }
+    ensures large { result ≡ Err EncodeFault.TooLarge → count_of (trees items.now) ≤ 32 →
+        AllFit (trees items.now) → ⊥ }
 {
     if items.len() > ITEMS_MAX {
         return Err(EncodeFault::TooLarge);
@@ -142,7 +151,8 @@ fn put_tuple(out: &mut Vec<u8>, items: &[Term]) -> Result<(), EncodeFault>
 #[cycle(put)]
 #[tactic(auto, using(term_values::proofs::Trees::item_smaller))]
 fn put_items(out: &mut Vec<u8>, items: &[Term]) -> Result<(), EncodeFault>
-    ensures ok { OnOk result (AllFit (trees items.now) × (out.new.items ≡ out.old.items ++ spellings (trees items.now))) }
+    ensures ok { OnOk result (AllFit (trees items.now)
+        × (out.new.items ≡ out.old.items ++ spellings (trees items.now))) }
     ensures large { result ≡ Err EncodeFault.TooLarge → AllFit (trees items.now) → ⊥ }
 {
     for item in items {

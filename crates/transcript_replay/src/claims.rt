@@ -3,7 +3,11 @@ ghost use Rattle.std.specs.List.{list_any};
 ghost use Rattle.std.specs.Option.{option_copied};
 ghost use Rattle.mech_rows.specs.Rows.{agreed_of};
 ghost use Rattle.world_run.specs.Views.{shown_of, told_by};
-ghost use Rattle.transcript_replay.specs.Completions.{agreeing_with as agreeing_run, claim_of as claim_by, done_text, has_claim as claims, is_pair_of as pair_of, is_revealed as head_revealed, message_text, numbered};
+ghost use Rattle.transcript_replay.specs.Completions.{agreeing_with as agreeing_run};
+ghost use Rattle.transcript_replay.specs.Completions.{claim_of as claim_by, done_text};
+ghost use Rattle.transcript_replay.specs.Completions.{has_claim as claims, is_pair_of as pair_of};
+ghost use Rattle.transcript_replay.specs.Completions.{is_revealed as head_revealed, message_text};
+ghost use Rattle.transcript_replay.specs.Completions.{numbered};
 
 use crate::printed::{put_done, put_sent};
 use agreement_laws::{Happened, History, partner};
@@ -82,7 +86,8 @@ fn numbered_run(runs: &[Happened], run: u32) -> Option<&Happened>
 /// Run number `run` of a history.
 #[tactic(auto, using(crate::proofs::Partners::numbered_shown))]
 fn happened_at(history: &History, run: u32) -> Option<&Happened>
-    ensures { option_map shown_of (option_copied result) ≡ numbered (told_by history.now).happened run }
+    ensures { option_map shown_of (option_copied result) ≡ numbered
+        (told_by history.now).happened run }
 {
     numbered_run(history.happened.as_slice(), run)
 }
@@ -94,7 +99,8 @@ fn put_run_end(
     history: &History,
     run: &Happened,
 ) -> Result<(), OutOfMemory>
-    ensures { OnOk result (out.new.items ≡ out.old.items ++ done_text (told_by history.now) (Some (shown_of run.now))) }
+    ensures { OnOk result (out.new.items ≡ out.old.items ++ done_text (told_by history.now)
+        (Some (shown_of run.now))) }
 {
     if !run.done {
         return Ok(());
@@ -110,7 +116,8 @@ pub(crate) fn put_end(
     history: &History,
     run: u32,
 ) -> Result<(), OutOfMemory>
-    ensures { OnOk result (out.new.items ≡ out.old.items ++ done_text (told_by history.now) (numbered (told_by history.now).happened run)) }
+    ensures { OnOk result (out.new.items ≡ out.old.items ++ done_text (told_by history.now)
+        (numbered (told_by history.now).happened run)) }
 {
     match happened_at(history, run) {
         Some(happened) => put_run_end(alloc, out, history, happened),
@@ -127,7 +134,8 @@ pub(crate) fn put_message(
     run: u32,
 ) -> Result<(), OutOfMemory>
     requires room { before < 2 ^ 32 }
-    ensures { OnOk result (out.new.items ≡ out.old.items ++ message_text (before + 1) run (numbered sent.now (before + 1))) }
+    ensures { OnOk result (out.new.items ≡ out.old.items ++ message_text (before + 1) run
+        (numbered sent.now (before + 1))) }
 {
     match sent.get(before) {
         Some(term) => put_sent(alloc, out, before + 1, run, term),

@@ -41,7 +41,9 @@ fn put_doings(
     run: u32,
 ) -> Result<(), OutOfMemory>
     requires room { before < 2 ^ 32 }
-    ensures { OnOk result (out.new.items ≡ out.old.items ++ (message_text (before + 1) run (numbered (sent_in world.now.acts) (before + 1)) ++ done_text (told_of world.now) (numbered (told_of world.now).happened run))) }
+    ensures { OnOk result (out.new.items ≡ out.old.items ++
+        (message_text (before + 1) run (numbered (sent_in world.now.acts) (before + 1)) ++ done_text
+        (told_of world.now) (numbered (told_of world.now).happened run))) }
 {
     let history = world.history();
     put_message(alloc, out, history.sent.as_slice(), before, run)?;
@@ -83,7 +85,8 @@ pub(crate) fn give(
 ) -> Result<Vec<u8>, OutOfMemory>
     requires limits { IsInLimits term.now }
     requires numbers { HasNumbers world.old }
-    ensures done { IfOk result (λ v. IsGivenSo (allowed hook.now.rules.items) world.old run term.now world.new v.items) }
+    ensures done { IfOk result (λ v. IsGivenSo
+        (allowed hook.now.rules.items) world.old run term.now world.new v.items) }
     ensures grows { HasGrown world.old world.new }
 {
     let before = world.history().sent.as_slice().len();

@@ -2,8 +2,11 @@ ghost use Rattle.std.specs.Prelude.{◌≡◌};
 ghost use Rattle.std.specs.List.{list_any};
 ghost use Rattle.term_values.specs.SameBytes.{same_bytes};
 ghost use Rattle.agreement_laws.specs.Configs.{is_of as is_of_pair};
-ghost use Rattle.world_run.specs.Tested.{begins_apart as apart, has_part as part_among, has_party as party_among, is_declared as pair_declared, pairs_have_part as part_of_pairs};
-ghost use Rattle.transcript_replay.specs.Fitting.{fits_pair as pair_fits, fits_part as part_fits, fits_party as party_fits};
+ghost use Rattle.world_run.specs.Tested.{begins_apart as apart, has_part as part_among};
+ghost use Rattle.world_run.specs.Tested.{has_party as party_among, is_declared as pair_declared};
+ghost use Rattle.world_run.specs.Tested.{pairs_have_part as part_of_pairs};
+ghost use Rattle.transcript_replay.specs.Fitting.{fits_pair as pair_fits, fits_part as part_fits};
+ghost use Rattle.transcript_replay.specs.Fitting.{fits_party as party_fits};
 
 use term_values::{Name, Part};
 use world_run::{Config, Pair, Party};

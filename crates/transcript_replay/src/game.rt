@@ -1,4 +1,5 @@
-ghost use Rattle.std.specs.Prelude.{◌≡◌, ◌≤◌, ◌<◌, ◌+◌, ◌*◌, ◌^◌, ℕ, List, length, IfOk, IfErr, OnOk};
+ghost use Rattle.std.specs.Prelude.{◌≡◌, ◌≤◌, ◌<◌, ◌+◌, ◌*◌, ◌^◌, ℕ, List, length, IfOk, IfErr};
+ghost use Rattle.std.specs.Prelude.{OnOk};
 ghost use Rattle.std.specs.Io.KnownBytes.{Appends};
 ghost use Rattle.script_text.specs.declared.line.Line.{Line as LineOf};
 ghost use Rattle.text_hooks.specs.Rules.{allowed};
@@ -31,7 +32,8 @@ use world_run::{BadConfig, Config, World};
 fn run(alloc: Global, world: &mut World, hook: &Hook, line: Line) -> Result<Vec<u8>, LineFault>
     requires playable { IsPlayable line }
     requires numbers { HasNumbers world.old }
-    ensures ok { IfOk result (λ v. Does (started world.old hook.now.rules.items) line (started world.new hook.now.rules.items) v.items) }
+    ensures ok { IfOk result (λ v. Does (started world.old hook.now.rules.items) line
+        (started world.new hook.now.rules.items) v.items) }
     ensures bad { IfErr result (IsLate line) }
     ensures grows { HasGrown world.old world.new }
 {
@@ -51,7 +53,8 @@ fn run(alloc: Global, world: &mut World, hook: &Hook, line: Line) -> Result<Vec<
 fn answer(alloc: Global, world: &mut World, hook: &Hook, text: &[u8]) -> Result<Vec<u8>, LineFault>
     requires numbers { HasNumbers world.old }
     ensures grows { HasGrown world.old world.new }
-    ensures ok { IfOk result (λ v. Goes (started world.old hook.now.rules.items) text.now (started world.new hook.now.rules.items) v.items) }
+    ensures ok { IfOk result (λ v. Goes (started world.old hook.now.rules.items) text.now
+        (started world.new hook.now.rules.items) v.items) }
     ensures bad { IfErr result (IsBadBy (started world.old hook.now.rules.items) text.now) }
 {
     let line = line_of(alloc, text, world.history().sent.as_slice())?;
@@ -69,7 +72,8 @@ fn play_line<O: Sink>(
 ) -> Result<(), Stop>
     requires numbers { HasNumbers world.old }
     ensures grows { HasGrown world.old world.new }
-    ensures ends { LineEnds result number (started world.old hook.now.rules.items) text.now (started world.new hook.now.rules.items) (O.put_so_far out.old) (O.put_so_far out.new) }
+    ensures ends { LineEnds result number (started world.old hook.now.rules.items) text.now
+        (started world.new hook.now.rules.items) (O.put_so_far out.old) (O.put_so_far out.new) }
     ensures cause { HasStopCause (O.fault_count out.old) (O.fault_count out.new) result }
 {
     match answer(alloc, world, hook, text) {
@@ -89,7 +93,9 @@ fn play_lines<O: Sink>(
 ) -> Result<(), Stop>
     requires room { first + length text.now ≤ 2 ^ 21 }
     requires within { IsWithin first world.old }
-    ensures ends { (written : List ℕ) × Runs first (started world.old hook.now.rules.items) (lines_of text.now) (end_of result) written × Appends (O.put_so_far out.old) (O.put_so_far out.new) written }
+    ensures ends { (written : List ℕ) × Runs first (started world.old hook.now.rules.items)
+        (lines_of text.now) (end_of result) written
+        × Appends (O.put_so_far out.old) (O.put_so_far out.new) written }
     ensures cause { HasStopCause (O.fault_count out.old) (O.fault_count out.new) result }
 {
     let mut rest = text;
@@ -138,7 +144,9 @@ fn play_under<O: Sink>(
 ) -> Result<(), Stop>
     requires room { first + length text.now ≤ 2 ^ 21 }
     requires within { IsWithin first world.old }
-    ensures ends { (written : List ℕ) × Runs first (started world.old rules.items) (lines_of text.now) (end_of result) written × Appends (O.put_so_far out.old) (O.put_so_far out.new) written }
+    ensures ends { (written : List ℕ) × Runs first (started world.old rules.items)
+        (lines_of text.now) (end_of result) written
+        × Appends (O.put_so_far out.old) (O.put_so_far out.new) written }
     ensures cause { HasStopCause (O.fault_count out.old) (O.fault_count out.new) result }
 {
     let same = copied_rules(alloc, rules.as_slice())?;
@@ -160,7 +168,9 @@ pub(crate) fn play_events<O: Sink>(
 ) -> Result<(), Stop>
     requires kept { KeepsConditions setup.config }
     requires room { number + length text.now ≤ 2 ^ 21 }
-    ensures ends { (written : List ℕ) × Runs number (started (beginning setup.config) setup.rules.items) (lines_of text.now) (end_of result) written × Appends (O.put_so_far out.old) (O.put_so_far out.new) written }
+    ensures ends { (written : List ℕ) × Runs number
+        (started (beginning setup.config) setup.rules.items) (lines_of text.now)
+        (end_of result) written × Appends (O.put_so_far out.old) (O.put_so_far out.new) written }
     ensures cause { HasStopCause (O.fault_count out.old) (O.fault_count out.new) result }
 {
     let mut world = begun(alloc, &setup.config)?;

@@ -15,8 +15,10 @@ pub(crate) fn read_input<I: Source>(alloc: Global, input: &mut I) -> Result<Vec<
     ensures whole { IfOk result (λ text. IsTold (I.left input.old) text.items) }
     ensures end { OnOk result (IsAtEnd (I.left input.new)) }
     ensures fits { IfOk result (λ text. length text.items ≤ 1_048_576) }
-    ensures long { result ≡ Err InputFault.Long → (bytes : List ℕ) × IsTold (I.left input.old) bytes × (1_048_576 < length bytes) }
-    ensures failed { result ≡ Err InputFault.Failed → Rose (I.fault_count input.old) (I.fault_count input.new) }
+    ensures long { result ≡ Err InputFault.Long → (bytes : List ℕ) × IsTold (I.left input.old) bytes
+        × (1_048_576 < length bytes) }
+    ensures failed { result ≡ Err InputFault.Failed →
+        Rose (I.fault_count input.old) (I.fault_count input.new) }
 {
     let mut text = Vec::new(alloc);
     let mut buf = [0; 4096];

@@ -25,7 +25,9 @@ fn hear_line<O: Sink>(
     out: &mut O,
 ) -> Result<bool, Stop>
     requires kept { KeepsConditions setup.old.config }
-    ensures ends { HeardEnds result number (set_up setup.old.config setup.old.rules.items) text.now (set_up setup.new.config setup.new.rules.items) (O.put_so_far out.old) (O.put_so_far out.new) }
+    ensures ends { HeardEnds result number (set_up setup.old.config setup.old.rules.items) text.now
+        (set_up setup.new.config setup.new.rules.items) (O.put_so_far out.old)
+        (O.put_so_far out.new) }
     ensures kept { OnOk result (KeepsConditions setup.new.config) }
     ensures cause { HasStopCause (O.fault_count out.old) (O.fault_count out.new) result }
 {
@@ -38,7 +40,8 @@ fn hear_line<O: Sink>(
 /// Plays a whole script.
 pub(crate) fn play<O: Sink>(alloc: Global, text: &[u8], out: &mut O) -> Result<(), Stop>
     requires short { length text.now ≤ 1_048_576 }
-    ensures ends { (written : List ℕ) × Runs 1 fresh (lines_of text.now) (end_of result) written × Appends (O.put_so_far out.old) (O.put_so_far out.new) written }
+    ensures ends { (written : List ℕ) × Runs 1 fresh (lines_of text.now) (end_of result) written
+        × Appends (O.put_so_far out.old) (O.put_so_far out.new) written }
     ensures cause { HasStopCause (O.fault_count out.old) (O.fault_count out.new) result }
 {
     let mut setup = Setup::new(alloc);

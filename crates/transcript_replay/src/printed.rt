@@ -2,7 +2,10 @@ ghost use Rattle.std.specs.Prelude.{◌≡◌, ◌++◌, codes, OnOk, IfOk};
 ghost use Rattle.std.specs.Fmt.{decimal};
 ghost use Rattle.script_text.specs.Lines.{mech_name as mech_word_of, role_name as role_word_of};
 ghost use Rattle.script_text.specs.Notation.{notation, plain};
-ghost use Rattle.transcript_replay.specs.Printed.{bad_line, claim_word, clock_line, done_line, dropped_line, partner_word, reason_word as reason_word_of, refused_line, run_line, sent_line, took_line, who_words};
+ghost use Rattle.transcript_replay.specs.Printed.{bad_line, claim_word, clock_line, done_line};
+ghost use Rattle.transcript_replay.specs.Printed.{dropped_line, partner_word};
+ghost use Rattle.transcript_replay.specs.Printed.{reason_word as reason_word_of, refused_line};
+ghost use Rattle.transcript_replay.specs.Printed.{run_line, sent_line, took_line, who_words};
 
 use crate::reason::Reason;
 use mech_rows::{Mech, Refusal, Role, RunHead};

@@ -19,14 +19,16 @@ const LINES_MAX: usize = 4096;
 
 /// Reads the whole input, then plays it, and answers a status.
 fn read_and_play<I: Source, O: Sink>(alloc: Global, input: &mut I, out: &mut O) -> u8
-    ensures statuses { (result ≡ 0) ⊎ (result ≡ 3) ⊎ (result ≡ 4) ⊎ (result ≡ 5) ⊎ (result ≡ 6) ⊎ (result ≡ 7) }
+    ensures statuses { (result ≡ 0) ⊎ (result ≡ 3) ⊎ (result ≡ 4) ⊎ (result ≡ 5) ⊎ (result ≡ 6)
+        ⊎ (result ≡ 7) }
     ensures whole { (result ≡ 3 → ⊥) → (result ≡ 4 → ⊥) → (result ≡ 7 → ⊥) → (bytes text : List ℕ) × IsTold (I.left input.old) bytes
         × IsOutput bytes (Whole result) text × Appends (O.put_so_far out.old) (O.put_so_far out.new) text }
     ensures cut { (result ≡ 4) ⊎ (result ≡ 7) → (bytes text : List ℕ) × IsTold (I.left input.old) bytes
         × IsOutput bytes Front text × Appends (O.put_so_far out.old) (O.put_so_far out.new) text }
     ensures at_end { (result ≡ 0) ⊎ (result ≡ 5) → IsAtEnd (I.left input.new) }
     ensures quiet { (result ≡ 3) ⊎ (result ≡ 6) → out.new ≡ out.old }
-    ensures over { (bytes : List ℕ) → I.left input.old ≡ Some bytes → is_over bytes ≡ true → ((result ≡ 3) ⊎ (result ≡ 6) ⊎ (result ≡ 7)) × (out.new ≡ out.old) }
+    ensures over { (bytes : List ℕ) → I.left input.old ≡ Some bytes → is_over bytes ≡ true →
+        ((result ≡ 3) ⊎ (result ≡ 6) ⊎ (result ≡ 7)) × (out.new ≡ out.old) }
     ensures read_failed { result ≡ 3 → Rose (I.fault_count input.old) (I.fault_count input.new) }
     ensures write_failed { result ≡ 4 → Rose (O.fault_count out.old) (O.fault_count out.new) }
 {
@@ -54,7 +56,8 @@ fn read_and_play<I: Source, O: Sink>(alloc: Global, input: &mut I, out: &mut O) 
 /// input has more than 1,048,576 bytes or more than 4,096 lines, and nothing was written. 7: memory was wanting, and a front of
 /// the output was written.
 pub fn replay<I: Source, O: Sink>(alloc: Global, input: &mut I, out: &mut O) -> u8
-    ensures statuses { (result ≡ 0) ⊎ (result ≡ 3) ⊎ (result ≡ 4) ⊎ (result ≡ 5) ⊎ (result ≡ 6) ⊎ (result ≡ 7) }
+    ensures statuses { (result ≡ 0) ⊎ (result ≡ 3) ⊎ (result ≡ 4) ⊎ (result ≡ 5) ⊎ (result ≡ 6)
+        ⊎ (result ≡ 7) }
 
     // What is written and the status are an output of the input.
     ensures whole { (result ≡ 3 → ⊥) → (result ≡ 4 → ⊥) → (result ≡ 7 → ⊥) → (bytes text : List ℕ) × IsTold (I.left input.old) bytes
@@ -70,14 +73,16 @@ pub fn replay<I: Source, O: Sink>(alloc: Global, input: &mut I, out: &mut O) -> 
         → (result ≡ 7) ⊎ ((result ≡ status) × Appends (O.put_so_far out.old) (O.put_so_far out.new) text) }
 
     // The world that the input leads to is sound, however much of it was printed.
-    ensures sound { (bytes : List ℕ) (w : WorldView) → IsTold (I.left input.old) bytes → IsWorldOf bytes w → IsSound w.config (trace (entries w.acts)) }
+    ensures sound { (bytes : List ℕ) (w : WorldView) → IsTold (I.left input.old) bytes →
+        IsWorldOf bytes w → IsSound w.config (trace (entries w.acts)) }
 
     // The whole input was read.
     ensures at_end { (result ≡ 0) ⊎ (result ≡ 5) → IsAtEnd (I.left input.new) }
     ensures quiet { (result ≡ 3) ⊎ (result ≡ 6) → out.new ≡ out.old }
 
     // Of an input that is too long nothing is played.
-    ensures over { (bytes : List ℕ) → I.left input.old ≡ Some bytes → is_over bytes ≡ true → ((result ≡ 3) ⊎ (result ≡ 6) ⊎ (result ≡ 7)) × (out.new ≡ out.old) }
+    ensures over { (bytes : List ℕ) → I.left input.old ≡ Some bytes → is_over bytes ≡ true →
+        ((result ≡ 3) ⊎ (result ≡ 6) ⊎ (result ≡ 7)) × (out.new ≡ out.old) }
 
     ensures read_failed { result ≡ 3 → Rose (I.fault_count input.old) (I.fault_count input.new) }
     ensures write_failed { result ≡ 4 → Rose (O.fault_count out.old) (O.fault_count out.new) }

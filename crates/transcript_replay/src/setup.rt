@@ -45,7 +45,8 @@ impl Setup {
     #[tactic(auto, using(crate::proofs::Adding::party_fits))]
     fn party(&mut self, name: Name, kind: StampKind, window: u32) -> Result<(), LineFault>
         requires { KeepsConditions self.old.config }
-        ensures ok { OnOk result (Does (set_up self.old.config self.old.rules.items) (LineOf.Party name kind window) (set_up self.new.config self.new.rules.items) []) }
+        ensures ok { OnOk result (Does (set_up self.old.config self.old.rules.items)
+            (LineOf.Party name kind window) (set_up self.new.config self.new.rules.items) []) }
         ensures bad { IfErr result (IsBroken self.old.config (LineOf.Party name kind window)) }
     {
         let party = Party {
@@ -64,7 +65,8 @@ impl Setup {
     #[tactic(auto, using(crate::proofs::Adding::pair_kept, crate::proofs::Adding::pair_fits))]
     fn pair(&mut self, a: Name, b: Name, part: Part, revealed: bool) -> Result<(), LineFault>
         requires { KeepsConditions self.old.config }
-        ensures ok { OnOk result (Does (set_up self.old.config self.old.rules.items) (LineOf.Pair a b part revealed) (set_up self.new.config self.new.rules.items) []) }
+        ensures ok { OnOk result (Does (set_up self.old.config self.old.rules.items)
+            (LineOf.Pair a b part revealed) (set_up self.new.config self.new.rules.items) []) }
         ensures bad { IfErr result (IsBroken self.old.config (LineOf.Pair a b part revealed)) }
     {
         let pair = Pair {
@@ -83,7 +85,8 @@ impl Setup {
     #[tactic(auto, using(crate::proofs::Adding::own_kept, crate::proofs::Adding::own_fits))]
     fn own(&mut self, part: Part) -> Result<(), LineFault>
         requires { KeepsConditions self.old.config }
-        ensures ok { OnOk result (Does (set_up self.old.config self.old.rules.items) (LineOf.Own part) (set_up self.new.config self.new.rules.items) []) }
+        ensures ok { OnOk result (Does (set_up self.old.config self.old.rules.items)
+            (LineOf.Own part) (set_up self.new.config self.new.rules.items) []) }
         ensures bad { IfErr result (IsBroken self.old.config (LineOf.Own part)) }
     {
         if !fits_part(&self.config, &part) {
@@ -94,7 +97,8 @@ impl Setup {
     }
 
     fn allow(&mut self, rule: Rule) -> Result<(), LineFault>
-        ensures ok { OnOk result (Does (set_up self.old.config self.old.rules.items) (LineOf.Allow rule) (set_up self.new.config self.new.rules.items) []) }
+        ensures ok { OnOk result (Does (set_up self.old.config self.old.rules.items)
+            (LineOf.Allow rule) (set_up self.new.config self.new.rules.items) []) }
         ensures bad { IfErr result (IsBroken self.old.config (LineOf.Allow rule)) }
     {
         self.rules.push(rule)?;
@@ -103,7 +107,8 @@ impl Setup {
 
     fn set(&mut self, line: Line) -> Result<bool, LineFault>
         requires { KeepsConditions self.old.config }
-        ensures ok { IfOk result (HeardSo (set_up self.old.config self.old.rules.items) line (set_up self.new.config self.new.rules.items)) }
+        ensures ok { IfOk result (HeardSo (set_up self.old.config self.old.rules.items) line
+            (set_up self.new.config self.new.rules.items)) }
         ensures bad { IfErr result (IsBroken self.old.config line) }
     {
         match line {
@@ -127,8 +132,11 @@ impl Setup {
     /// Hears a line before the first event line. Answers whether it is the first event line.
     pub fn hear(&mut self, alloc: Global, text: &[u8]) -> Result<bool, LineFault>
         requires { KeepsConditions self.old.config }
-        ensures ok { IfOk result (λ event. (l : LineSaid) × Says [] text.now l × HeardSo (set_up self.old.config self.old.rules.items) l (set_up self.new.config self.new.rules.items) event) }
-        ensures bad { IfErr result (IsBadBy (set_up self.old.config self.old.rules.items) text.now) }
+        ensures ok { IfOk result (λ event. (l : LineSaid) × Says [] text.now l
+            × HeardSo (set_up self.old.config self.old.rules.items) l
+            (set_up self.new.config self.new.rules.items) event) }
+        ensures bad { IfErr result (IsBadBy (set_up self.old.config self.old.rules.items)
+            text.now) }
     {
         let line = line_of(alloc, text, &[])?;
         self.set(line)

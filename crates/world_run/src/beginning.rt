@@ -1,6 +1,7 @@
 ghost use Rattle.std.specs.Prelude.{◌≡◌, ◌≤◌, ◌++◌, [], map, IfOk};
 ghost use Rattle.term_values.specs.Trees.{Among, part as a_part};
-ghost use Rattle.agreement_laws.specs.Configs.{Party as PartyOf, is_of as is_of_pair, part_among, revealed_parts as revealed_of};
+ghost use Rattle.agreement_laws.specs.Configs.{Party as PartyOf, is_of as is_of_pair, part_among};
+ghost use Rattle.agreement_laws.specs.Configs.{revealed_parts as revealed_of};
 ghost use Rattle.agreement_laws.specs.Worlds.{peers_by};
 ghost use Rattle.world_run.specs.Beginnings.{AreNewSeats, IsNewSeat};
 ghost use Rattle.world_run.specs.Conditions.{KeepsConditions};
@@ -92,7 +93,8 @@ pub(crate) fn parties_for(alloc: Global, config: &Config) -> Result<Parties, Out
     requires conditions { KeepsConditions config.now }
     ensures config { IfOk result (λ parties. parties.config ≡ config.now) }
     ensures acts { IfOk result (λ parties. parties.acts ≡ []) }
-    ensures clocks { IfOk result (λ parties. parties.clocks ≡ map (λ (p : PartyOf). 0) config.now.parties) }
+    ensures clocks { IfOk result (λ parties.
+        parties.clocks ≡ map (λ (p : PartyOf). 0) config.now.parties) }
 {
     let seats = seats_for(alloc, config)?;
     let config = copied(alloc, config)?;
@@ -101,7 +103,8 @@ pub(crate) fn parties_for(alloc: Global, config: &Config) -> Result<Parties, Out
 
 /// The attacker's own parts, then those of the revealed pairs.
 pub(crate) fn known_parts(alloc: Global, config: &Config) -> Result<Vec<Part>, OutOfMemory>
-    ensures { IfOk result (λ parts. map a_part parts.items ≡ map a_part config.now.own ++ revealed_of config.now.pairs) }
+    ensures { IfOk result (λ parts. map a_part parts.items
+        ≡ map a_part config.now.own ++ revealed_of config.now.pairs) }
 {
     let mut parts = config.own.to_vec(alloc)?;
     for pair in config.pairs.as_slice() {

@@ -2,7 +2,8 @@ ghost use Rattle.std.specs.Prelude.{◌≡◌, ◌-◌, ◌^◌, ◌↔◌, IsTr
 ghost use Rattle.term_values.specs.declared.small.Key.{Key as AnyKey};
 ghost use Rattle.outside.specs.Told.{nonce_draw, part_draw};
 ghost use Rattle.fresh_values.specs.Counts.{first_byte};
-ghost use Rattle.world_run.specs.Born.{BeginsLater, HasUnborn, HoldsLater, IsLaterDraw, KeyHoldsLater, number_from};
+ghost use Rattle.world_run.specs.Born.{BeginsLater, HasUnborn, HoldsLater, IsLaterDraw};
+ghost use Rattle.world_run.specs.Born.{KeyHoldsLater, number_from};
 
 use term_values::{Form, Key, Part, Term};
 

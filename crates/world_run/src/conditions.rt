@@ -3,7 +3,15 @@ ghost use Rattle.std.specs.List.{list_all, list_any};
 ghost use Rattle.term_values.specs.SameBytes.{same_bytes};
 ghost use Rattle.agreement_laws.specs.Configs.{LongTerm, is_of as is_of_pair};
 ghost use Rattle.world_run.specs.Conditions.{KeepsConditions};
-ghost use Rattle.world_run.specs.Tested.{are_fit_pairs as fit_pairs, are_kept as all_kept, are_fit_parties as fit_parties, are_fit_parts as fit_parts, are_new_pairs as new_pairs, are_new_parts as new_parts, begins_apart as apart, has_part as parts_have, has_party as party_there, has_window as window_fits, have_new_names as new_names, have_new_parts as new_part_of_pairs, is_declared as pair_declared, pairs_have_part as part_of_pairs};
+ghost use Rattle.world_run.specs.Tested.{are_fit_pairs as fit_pairs, are_kept as all_kept};
+ghost use Rattle.world_run.specs.Tested.{are_fit_parties as fit_parties};
+ghost use Rattle.world_run.specs.Tested.{are_fit_parts as fit_parts, are_new_pairs as new_pairs};
+ghost use Rattle.world_run.specs.Tested.{are_new_parts as new_parts, begins_apart as apart};
+ghost use Rattle.world_run.specs.Tested.{has_part as parts_have, has_party as party_there};
+ghost use Rattle.world_run.specs.Tested.{has_window as window_fits, have_new_names as new_names};
+ghost use Rattle.world_run.specs.Tested.{have_new_parts as new_part_of_pairs};
+ghost use Rattle.world_run.specs.Tested.{is_declared as pair_declared};
+ghost use Rattle.world_run.specs.Tested.{pairs_have_part as part_of_pairs};
 
 use crate::born::{NONCE_LEAD, PART_LEAD};
 use crate::config::Config;

@@ -1,15 +1,19 @@
-ghost use Rattle.std.specs.Prelude.{true, ◌≡◌, ◌≢◌, ◌<◌, ◌≤◌, ◌+◌, ◌⊎◌, None, Some, Err, length, slice_get, IsTrue, IfOk, IfErr, OnOk, OnErr, option_map, vec_len};
+ghost use Rattle.std.specs.Prelude.{true, ◌≡◌, ◌≢◌, ◌<◌, ◌≤◌, ◌+◌, ◌⊎◌, None, Some, Err, length};
+ghost use Rattle.std.specs.Prelude.{slice_get, IsTrue, IfOk, IfErr, OnOk, OnErr, option_map};
+ghost use Rattle.std.specs.Prelude.{vec_len};
 ghost use Rattle.term_values.specs.Trees.{Among};
 ghost use Rattle.tagged_codec.specs.Grammar.{IsInLimits};
 ghost use Rattle.attacker_model.specs.Derivation.{Derivable};
-ghost use Rattle.mech_rows.specs.declared.refusal.Refusal.TheVariants.{Memory, NotDerivable, Unborn};
+ghost use Rattle.mech_rows.specs.declared.refusal.Refusal.TheVariants.{Memory, NotDerivable};
+ghost use Rattle.mech_rows.specs.declared.refusal.Refusal.TheVariants.{Unborn};
 ghost use Rattle.text_hooks.specs.Rules.{allowed};
 ghost use Rattle.node_desk.specs.Deliveries.{MayCommit};
 ghost use Rattle.node_desk.specs.Desks.{node_at};
 ghost use Rattle.node_desk.specs.Refusals.{got_refusal};
 ghost use Rattle.world_run.specs.Born.{HasUnborn};
 ghost use Rattle.world_run.specs.Clocks.{clock_in};
-ghost use Rattle.world_run.specs.Gives.{Drops, HasTaken, IsGiven, IsGiveLeft, IsGiveRefused, MayBeGiven};
+ghost use Rattle.world_run.specs.Gives.{Drops, HasTaken, IsGiven, IsGiveLeft, IsGiveRefused};
+ghost use Rattle.world_run.specs.Gives.{MayBeGiven};
 ghost use Rattle.world_run.specs.Kept.{IsEntered, IsKept, IsReady, view_of};
 ghost use Rattle.world_run.specs.Makings.{IsBrokenOff, IsMadeOf, IsUnanswered};
 ghost use Rattle.world_run.specs.Turns.{desk_in, HasGrown, HasNumbers};
@@ -40,7 +44,9 @@ fn numbered(runs: &[Numbered], run: u32) -> Option<Numbered>
 fn check_term(scene: &Scene, term: &Term) -> Result<(), Refusal>
     ensures derivable { OnOk result (Derivable scene.now.knowledge.given term.now) }
     ensures is_born { OnOk result (HasUnborn scene.now.draws.place term.now → ⊥) }
-    ensures refused { IfErr result (λ e. ((Derivable scene.now.knowledge.given term.now → ⊥) × (e ≡ NotDerivable)) ⊎ (Derivable scene.now.knowledge.given term.now × HasUnborn scene.now.draws.place term.now × (e ≡ Unborn))) }
+    ensures refused { IfErr result (λ e. ((Derivable scene.now.knowledge.given term.now → ⊥)
+        × (e ≡ NotDerivable)) ⊎ (Derivable scene.now.knowledge.given term.now
+        × HasUnborn scene.now.draws.place term.now × (e ≡ Unborn))) }
     ensures memory { IfErr result (λ e. e ≢ Memory) }
 {
     match scene.knowledge.derives(term) {
@@ -75,7 +81,9 @@ pub(crate) fn enter_step(
     requires room { length scene.old.runs.items < scene.old.parties.room }
     ensures kept { IsKept scene.new }
     ensures ok { IfOk result (λ g. IsEntered (view_of scene.old) id step g (view_of scene.new)) }
-    ensures refused { IfErr result (λ e. e ≢ Memory → got_refusal (node_at (desk_in (view_of scene.old) id.party)) (clock_in (view_of scene.old) id.party) step.got ≡ Some e) }
+    ensures refused { IfErr result (λ e. e ≢ Memory →
+        got_refusal (node_at (desk_in (view_of scene.old) id.party))
+        (clock_in (view_of scene.old) id.party) step.got ≡ Some e) }
     ensures err { OnErr result (view_of scene.new ≡ view_of scene.old) }
     ensures room { OnErr result (scene.new.parties.room ≡ scene.old.parties.room) }
 {
@@ -109,10 +117,14 @@ fn answer(
     requires few { scene.old.draws.place < 18_446_744_073_709_551_600 }
     requires room { length scene.old.runs.items + 1 < scene.old.parties.room }
     ensures kept { IsKept scene.new }
-    ensures ok { IfOk result (λ step. IsMadeOf (allowed hook.now.rules.items) (view_of scene.old) (view_of scene.new) id term.now step) }
-    ensures refused { IfErr result (λ e. e ≢ Memory → IsUnanswered (allowed hook.now.rules.items) (view_of scene.old) id term.now e) }
+    ensures ok { IfOk result (λ step. IsMadeOf (allowed hook.now.rules.items) (view_of scene.old)
+        (view_of scene.new) id term.now step) }
+    ensures refused { IfErr result (λ e. e ≢ Memory →
+        IsUnanswered (allowed hook.now.rules.items) (view_of scene.old) id term.now e) }
     ensures stays { IfErr result (λ e. e ≢ Memory → view_of scene.new ≡ view_of scene.old) }
-    ensures left { OnErr result (IsBrokenOff (HasTaken (allowed hook.now.rules.items) (view_of scene.old) id term.now) (view_of scene.old) (view_of scene.new) id.party) }
+    ensures left { OnErr result (IsBrokenOff
+        (HasTaken (allowed hook.now.rules.items) (view_of scene.old) id term.now)
+        (view_of scene.old) (view_of scene.new) id.party) }
     ensures room { OnOk result (length scene.new.runs.items < scene.new.parties.room) }
 {
     scene
@@ -140,9 +152,13 @@ pub(crate) fn give_in(
     requires limits { IsInLimits term.now }
     requires numbers { HasNumbers (view_of scene.old) }
     ensures kept { IsKept scene.new }
-    ensures ok { IfOk result (λ g. IsGiven (allowed hook.now.rules.items) (view_of scene.old) run term.now g (view_of scene.new)) }
-    ensures refused { IfErr result (λ e. e ≢ Memory → IsGiveRefused (allowed hook.now.rules.items) (view_of scene.old) run term.now e (view_of scene.new)) }
-    ensures left { result ≡ Err Memory → IsGiveLeft (allowed hook.now.rules.items) (view_of scene.old) run term.now (view_of scene.new) }
+    ensures ok { IfOk result (λ g. IsGiven (allowed hook.now.rules.items)
+        (view_of scene.old) run term.now g (view_of scene.new)) }
+    ensures refused { IfErr result (λ e. e ≢ Memory →
+        IsGiveRefused (allowed hook.now.rules.items) (view_of scene.old) run term.now e
+        (view_of scene.new)) }
+    ensures left { result ≡ Err Memory → IsGiveLeft (allowed hook.now.rules.items)
+        (view_of scene.old) run term.now (view_of scene.new) }
     ensures memory { result ≡ Err Memory → MayBeGiven (view_of scene.old) run term.now }
     ensures grows { HasGrown (view_of scene.old) (view_of scene.new) }
 {

@@ -1,4 +1,5 @@
-ghost use Rattle.std.specs.Prelude.{true, false, ◌≡◌, ◌≢◌, ◌<◌, ◌≤◌, ◌+◌, ◌-◌, None, Some, Err, length, slice_get, take, IfOk, IfErr, OnErr};
+ghost use Rattle.std.specs.Prelude.{true, false, ◌≡◌, ◌≢◌, ◌<◌, ◌≤◌, ◌+◌, ◌-◌, None, Some, Err};
+ghost use Rattle.std.specs.Prelude.{length, slice_get, take, IfOk, IfErr, OnErr};
 ghost use Rattle.mech_rows.specs.Heads.{IsHead, me};
 ghost use Rattle.mech_rows.specs.Notes.{terms_of};
 ghost use Rattle.mech_rows.specs.Replies.{in_order, sends_first};
@@ -32,7 +33,8 @@ fn told_at_first<S: RoleState>(
 ) -> Result<(Happened, bool), OutOfMemory>
     ensures run { IfOk result (λ told. told.0.run ≡ run) }
     ensures head { IfOk result (λ told. told.0.head ≡ head.now) }
-    ensures notes { IfOk result (λ told. terms_of told.0.notes ≡ in_order (S.state_of state).notes) }
+    ensures notes { IfOk result (λ told. terms_of told.0.notes ≡ in_order
+        (S.state_of state).notes) }
     ensures done { IfOk result (λ told. told.0.done ≡ is_over (S.state_of state)) }
     ensures exposed { IfOk result (λ told. told.0.exposed ≡ false) }
     ensures first { IfOk result (λ told. told.1 ≡ sends_first (S.state_of state)) }
@@ -51,11 +53,13 @@ fn told_at_first<S: RoleState>(
 /// Gives a run that its party has opened its number, and answers whether it says the first message.
 fn enlist(alloc: Global, scene: &mut Scene, head: &RunHead, run: u32) -> Result<bool, Refusal>
     requires kept { IsKept scene.old }
-    requires unlisted { IsUnlisted (view_of scene.old) head.now (record { party = me head.now; number = run }) }
+    requires unlisted { IsUnlisted (view_of scene.old) head.now
+        (record { party = me head.now; number = run }) }
     requires few { length scene.old.runs.items < 4_294_967_295 }
     requires room { length scene.old.runs.items < scene.old.parties.room }
     ensures kept { IsKept scene.new }
-    ensures ok { IfOk result (λ first. IsListed (view_of scene.old) (record { party = me head.now; number = run }) first (view_of scene.new)) }
+    ensures ok { IfOk result (λ first. IsListed (view_of scene.old)
+        (record { party = me head.now; number = run }) first (view_of scene.new)) }
     ensures memory { IfErr result (λ e. e ≡ Memory) }
     ensures err { OnErr result (view_of scene.new ≡ view_of scene.old) }
     ensures room { scene.new.parties.room ≡ scene.old.parties.room }
@@ -83,7 +87,8 @@ fn speak(alloc: Global, scene: &mut Scene, id: Numbered) -> Result<Opened, Refus
     ensures ok { IfOk result (λ o. HasSpoken (view_of scene.old) id o (view_of scene.new)) }
     ensures refused { IfErr result (λ e. e ≢ Memory → IsNotFirst (view_of scene.old) id e) }
     ensures stays { IfErr result (λ e. e ≢ Memory → view_of scene.new ≡ view_of scene.old) }
-    ensures left { OnErr result (IsBrokenOff (SaysFirst (view_of scene.old) id) (view_of scene.old) (view_of scene.new) id.party) }
+    ensures left { OnErr result (IsBrokenOff (SaysFirst (view_of scene.old) id) (view_of scene.old)
+        (view_of scene.new) id.party) }
     ensures room { OnErr result (scene.old.parties.room ≤ scene.new.parties.room + 1) }
 {
     let place = scene.runs.len() - 1;
@@ -102,10 +107,12 @@ fn speak(alloc: Global, scene: &mut Scene, id: Numbered) -> Result<Opened, Refus
 fn unlist(scene: &mut Scene)
     requires kept { IsKept scene.old }
     requires some { 0 < length scene.old.runs.items }
-    requires still { (id : RunId) → slice_get scene.old.runs.items (length scene.old.runs.items - 1) ≡ Some id → HasStepped scene.old.parties.acts id → ⊥ }
+    requires still { (id : RunId) → slice_get scene.old.runs.items (length scene.old.runs.items - 1)
+        ≡ Some id → HasStepped scene.old.parties.acts id → ⊥ }
     requires room { length scene.old.runs.items ≤ scene.old.parties.room }
     ensures kept { IsKept scene.new }
-    ensures leaves { view_of scene.new ≡ record (view_of scene.old) { runs = take (length scene.old.runs.items - 1) scene.old.runs.items } }
+    ensures leaves { view_of scene.new ≡ record
+        (view_of scene.old) { runs = take (length scene.old.runs.items - 1) scene.old.runs.items } }
     ensures room { scene.new.parties.room ≡ scene.old.parties.room }
 {
     let _run = scene.runs.pop();
@@ -115,14 +122,19 @@ fn unlist(scene: &mut Scene)
 /// Lets a run that its party has opened begin; where that fails, the run has no number.
 fn begin(alloc: Global, scene: &mut Scene, head: &RunHead, run: u32) -> Result<Opened, Refusal>
     requires kept { IsKept scene.old }
-    requires unlisted { IsUnlisted (view_of scene.old) head.now (record { party = me head.now; number = run }) }
+    requires unlisted { IsUnlisted (view_of scene.old) head.now
+        (record { party = me head.now; number = run }) }
     requires numbers { HasNumbers (view_of scene.old) }
     requires room { length scene.old.runs.items + 2 < scene.old.parties.room }
     ensures kept { IsKept scene.new }
-    ensures ok { IfOk result (λ o. HasBegun (view_of scene.old) (record { party = me head.now; number = run }) o (view_of scene.new)) }
-    ensures refused { IfErr result (λ e. e ≢ Memory → IsUnbegun (view_of scene.old) (record { party = me head.now; number = run }) e) }
+    ensures ok { IfOk result (λ o. HasBegun (view_of scene.old)
+        (record { party = me head.now; number = run }) o (view_of scene.new)) }
+    ensures refused { IfErr result (λ e. e ≢ Memory →
+        IsUnbegun (view_of scene.old) (record { party = me head.now; number = run }) e) }
     ensures stays { IfErr result (λ e. e ≢ Memory → view_of scene.new ≡ view_of scene.old) }
-    ensures left { OnErr result (IsBrokenOff (SaysFirst (view_of scene.old) (record { party = me head.now; number = run })) (view_of scene.old) (view_of scene.new) (me head.now)) }
+    ensures left { OnErr result (IsBrokenOff
+        (SaysFirst (view_of scene.old) (record { party = me head.now; number = run }))
+        (view_of scene.old) (view_of scene.new) (me head.now)) }
     ensures room { OnErr result (length scene.old.runs.items < scene.new.parties.room) }
 {
     if !enlist(alloc, scene, head, run)? {
@@ -165,9 +177,12 @@ pub(crate) fn open_in(
     requires plays { plays_live head.now ≡ true }
     requires numbers { HasNumbers (view_of scene.old) }
     ensures kept { IsKept scene.new }
-    ensures ok { IfOk result (λ o. IsOpened (view_of scene.old) head.now texts.now o (view_of scene.new)) }
-    ensures refused { IfErr result (λ e. e ≢ Memory → IsOpenRefused (view_of scene.old) head.now texts.now e (view_of scene.new)) }
-    ensures left { result ≡ Err Memory → IsOpenLeft (view_of scene.old) head.now texts.now (view_of scene.new) }
+    ensures ok { IfOk result (λ o. IsOpened (view_of scene.old) head.now texts.now o
+        (view_of scene.new)) }
+    ensures refused { IfErr result (λ e. e ≢ Memory →
+        IsOpenRefused (view_of scene.old) head.now texts.now e (view_of scene.new)) }
+    ensures left { result ≡ Err Memory → IsOpenLeft (view_of scene.old) head.now texts.now
+        (view_of scene.new) }
     ensures memory { result ≡ Err Memory → open_refusal (view_of scene.old) head.now ≡ None }
     ensures grows { HasGrown (view_of scene.old) (view_of scene.new) }
 {

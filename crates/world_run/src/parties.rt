@@ -1,4 +1,5 @@
-ghost use Rattle.std.specs.Prelude.{true, ◌≡◌, ◌≢◌, ◌+◌, ◌<◌, ◌≤◌, ◌↔◌, [], None, Some, length, map, IsTrue, IfOk, IfErr, OnOk, OnErr};
+ghost use Rattle.std.specs.Prelude.{true, ◌≡◌, ◌≢◌, ◌+◌, ◌<◌, ◌≤◌, ◌↔◌, [], None, Some, length};
+ghost use Rattle.std.specs.Prelude.{map, IsTrue, IfOk, IfErr, OnOk, OnErr};
 ghost use Rattle.std.specs.Bool.{OnTrue, OnFalse};
 ghost use Rattle.term_values.specs.Trees.{Among};
 ghost use Rattle.tagged_codec.specs.Grammar.{IsInLimits, IsSpelling};
@@ -81,7 +82,8 @@ impl Parties {
     ghost use Rattle.world_run.specs.Clocks.{clock_by, clock_in, raised_by};
     ghost use Rattle.world_run.specs.Conditions.{KeepsConditions};
     ghost use Rattle.world_run.specs.Gives.{HasTaken};
-    ghost use Rattle.world_run.specs.Makings.{HasAnswered, HasBrokenOff, HasMade, IsFirst, IsNotFirst, IsUnanswered, SaysFirst};
+    ghost use Rattle.world_run.specs.Makings.{HasAnswered, HasBrokenOff, HasMade, IsFirst};
+    ghost use Rattle.world_run.specs.Makings.{IsNotFirst, IsUnanswered, SaysFirst};
     ghost use Rattle.world_run.specs.Opens.{next_run};
     ghost use Rattle.world_run.specs.Parties.{as_world, HasActed, SameParties};
     ghost use Rattle.world_run.specs.Turns.{desk_in, keys_at, moment};
@@ -112,7 +114,10 @@ impl Parties {
     /// memory.
     pub(crate) fn raise(&mut self, name: Name, ms: u64) -> u64
         requires declared { Among name (names_in self.old.config) }
-        ensures raised { self.new ≡ record self.old { clocks = raised_by (names_in self.old.config) self.old.clocks name ms } }
+        ensures raised { self.new ≡ record self.old {
+          clocks = raised_by
+              (names_in self.old.config) self.old.clocks name ms;
+        } }
         ensures clock { result ≡ clock_by (names_in self.old.config) self.new.clocks name }
     {
         let place = place_of(&self.seats, name);
@@ -134,7 +139,8 @@ impl Parties {
     /// want of memory. Takes no memory.
     pub(crate) fn opening_refusal(&self, head: &RunHead) -> Option<Refusal>
         requires declared { Among (me head.now) (names_in self.now.config) }
-        ensures refusal { result ≡ opening_refusal (node_at (desk_in (as_world self.now 0) (me head.now))) head.now }
+        ensures refusal { result ≡ opening_refusal
+            (node_at (desk_in (as_world self.now 0) (me head.now))) head.now }
         ensures memory { result ≢ Some Memory }
     {
         let name = head.me();
@@ -152,10 +158,14 @@ impl Parties {
         requires declared { Among (me head.now) (names_in self.old.config) }
         requires plays { plays_live head.now ≡ true }
         requires room { 0 < self.old.room }
-        ensures ok { IfOk result (λ run. HasActed self.old self.new (me head.now) (Open run head.now texts.now)) }
+        ensures ok { IfOk result (λ run. HasActed self.old self.new (me head.now)
+            (Open run head.now texts.now)) }
         ensures number { IfOk result (λ run. run ≡ next_run (as_world self.old 0) (me head.now)) }
-        ensures fit { OnOk result (opening_refusal (node_at (desk_in (as_world self.old 0) (me head.now))) head.now ≡ None) }
-        ensures refused { IfErr result (λ e. e ≢ Memory → opening_refusal (node_at (desk_in (as_world self.old 0) (me head.now))) head.now ≡ Some e) }
+        ensures fit { OnOk result (opening_refusal
+            (node_at (desk_in (as_world self.old 0) (me head.now))) head.now ≡ None) }
+        ensures refused { IfErr result (λ e. e ≢ Memory →
+            opening_refusal (node_at (desk_in (as_world self.old 0) (me head.now))) head.now
+            ≡ Some e) }
         ensures err { OnErr result (self.new ≡ self.old) }
     {
         let name = head.me();
@@ -174,8 +184,10 @@ impl Parties {
     /// `UnknownRun` and `EndedRun`, each exactly where it holds; want of memory.
     pub(crate) fn look(&self, name: Name, run: u32) -> Result<Live, Refusal>
         requires declared { Among name (names_in self.now.config) }
-        ensures state { IfOk result (λ s. held_in self.now.acts (record { party = name; number = run }) ≡ open_in (live_state s)) }
-        ensures refused { IfErr result (λ e. e ≢ Memory → run_refusal (held_in self.now.acts (record { party = name; number = run })) ≡ Some e) }
+        ensures state { IfOk result (λ s. held_in self.now.acts
+            (record { party = name; number = run }) ≡ open_in (live_state s)) }
+        ensures refused { IfErr result (λ e. e ≢ Memory →
+            run_refusal (held_in self.now.acts (record { party = name; number = run })) ≡ Some e) }
     {
         let place = place_of(&self.seats, name);
         self.seats[place].desk.look(run)
@@ -198,11 +210,19 @@ impl Parties {
         requires declared { Among name (names_in self.old.config) }
         requires room { 0 < self.old.room }
         requires few { draws.old.place < 18_446_744_073_709_551_600 }
-        ensures ok { IfOk result (λ step. IsFirst (as_world self.old draws.old.place) (record { party = name; number = run }) step) }
-        ensures made { IfOk result (λ step. HasMade self.old self.new draws.old.place draws.new.place (record { party = name; number = run }) step.before step) }
-        ensures refused { IfErr result (λ e. e ≢ Memory → IsNotFirst (as_world self.old draws.old.place) (record { party = name; number = run }) e) }
-        ensures stays { IfErr result (λ e. e ≢ Memory → (self.new ≡ self.old) × (draws.new.place ≡ draws.old.place)) }
-        ensures left { OnErr result (HasBrokenOff (SaysFirst (as_world self.old draws.old.place) (record { party = name; number = run })) self.old self.new draws.old.place draws.new.place name) }
+        ensures ok { IfOk result (λ step. IsFirst (as_world self.old draws.old.place)
+            (record { party = name; number = run }) step) }
+        ensures made { IfOk result (λ step. HasMade self.old self.new draws.old.place
+            draws.new.place (record { party = name; number = run }) step.before step) }
+        ensures refused { IfErr result (λ e. e ≢ Memory →
+            IsNotFirst (as_world self.old draws.old.place)
+            (record { party = name; number = run }) e) }
+        ensures stays { IfErr result (λ e. e ≢ Memory → (self.new ≡ self.old)
+            × (draws.new.place ≡ draws.old.place)) }
+        ensures left { OnErr result (HasBrokenOff
+            (SaysFirst (as_world self.old draws.old.place)
+            (record { party = name; number = run })) self.old self.new draws.old.place
+            draws.new.place name) }
     {
         let place = place_of(&self.seats, name);
         let seat = &mut self.seats[place];
@@ -235,10 +255,18 @@ impl Parties {
         requires room { 0 < self.old.room }
         requires few { draws.old.place < 18_446_744_073_709_551_600 }
         requires limits { IsInLimits term.now }
-        ensures ok { IfOk result (λ step. HasAnswered (allowed hook.now.rules.items) self.old self.new draws.old.place draws.new.place (record { party = name; number = run }) term.now step) }
-        ensures refused { IfErr result (λ e. e ≢ Memory → IsUnanswered (allowed hook.now.rules.items) (as_world self.old draws.old.place) (record { party = name; number = run }) term.now e) }
-        ensures stays { IfErr result (λ e. e ≢ Memory → (self.new ≡ self.old) × (draws.new.place ≡ draws.old.place)) }
-        ensures left { OnErr result (HasBrokenOff (HasTaken (allowed hook.now.rules.items) (as_world self.old draws.old.place) (record { party = name; number = run }) term.now) self.old self.new draws.old.place draws.new.place name) }
+        ensures ok { IfOk result (λ step. HasAnswered
+            (allowed hook.now.rules.items) self.old self.new draws.old.place draws.new.place
+            (record { party = name; number = run }) term.now step) }
+        ensures refused { IfErr result (λ e. e ≢ Memory →
+            IsUnanswered (allowed hook.now.rules.items) (as_world self.old draws.old.place)
+            (record { party = name; number = run }) term.now e) }
+        ensures stays { IfErr result (λ e. e ≢ Memory → (self.new ≡ self.old)
+            × (draws.new.place ≡ draws.old.place)) }
+        ensures left { OnErr result (HasBrokenOff
+            (HasTaken (allowed hook.now.rules.items) (as_world self.old draws.old.place)
+            (record { party = name; number = run }) term.now) self.old self.new draws.old.place
+            draws.new.place name) }
     {
         let bytes = spelled(alloc, term)?;
         let place = place_of(&self.seats, name);
@@ -270,10 +298,15 @@ impl Parties {
         requires declared { Among name (names_in self.old.config) }
         requires room { 0 < self.old.room }
         requires may { MayCommit (desk_in (as_world self.old 0) name) run step }
-        requires symbolic { IsStep (tested_by body_of is_check) (keys_at (as_world self.old 0) name) (step_of step) }
-        ensures ok { OnOk result (HasActed self.old self.new name (Commit run (moment (as_world self.old 0) name) step)) }
-        ensures fit { OnOk result (got_refusal (node_at (desk_in (as_world self.old 0) name)) (clock_in (as_world self.old 0) name) step.got ≡ None) }
-        ensures refused { IfErr result (λ e. e ≢ Memory → got_refusal (node_at (desk_in (as_world self.old 0) name)) (clock_in (as_world self.old 0) name) step.got ≡ Some e) }
+        requires symbolic { IsStep (tested_by body_of is_check) (keys_at (as_world self.old 0) name)
+            (step_of step) }
+        ensures ok { OnOk result (HasActed self.old self.new name
+            (Commit run (moment (as_world self.old 0) name) step)) }
+        ensures fit { OnOk result (got_refusal (node_at (desk_in (as_world self.old 0) name))
+            (clock_in (as_world self.old 0) name) step.got ≡ None) }
+        ensures refused { IfErr result (λ e. e ≢ Memory →
+            got_refusal (node_at (desk_in (as_world self.old 0) name))
+            (clock_in (as_world self.old 0) name) step.got ≡ Some e) }
         ensures err { OnErr result (self.new ≡ self.old) }
     {
         let place = place_of(&self.seats, name);
@@ -290,11 +323,14 @@ impl Parties {
     /// memory.
     pub(crate) fn drop_run(&mut self, name: Name, run: u32) -> bool
         requires declared { Among name (names_in self.old.config) }
-        requires room { run_refusal (held_in self.old.acts (record { party = name; number = run })) ≡ None → 0 < self.old.room }
+        requires room { run_refusal (held_in self.old.acts (record { party = name; number = run }))
+            ≡ None → 0 < self.old.room }
         ensures dropped { OnTrue result (HasActed self.old self.new name (Drop run)) }
         ensures kept { OnFalse result (self.new ≡ self.old) }
-        ensures running { OnTrue result (run_refusal (held_in self.old.acts (record { party = name; number = run })) ≡ None) }
-        ensures over { OnFalse result (run_refusal (held_in self.old.acts (record { party = name; number = run })) ≢ None) }
+        ensures running { OnTrue result (run_refusal
+            (held_in self.old.acts (record { party = name; number = run })) ≡ None) }
+        ensures over { OnFalse result (run_refusal
+            (held_in self.old.acts (record { party = name; number = run })) ≢ None) }
     {
         let place = place_of(&self.seats, name);
         let seat = &mut self.seats[place];

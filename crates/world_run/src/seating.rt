@@ -1,4 +1,5 @@
-ghost use Rattle.std.specs.Prelude.{true, ◌≡◌, ◌<◌, ◌+◌, ◌++◌, ◌∷◌, ◌==◌, [], length, map, get_or, nat_lt, vec_len, vec_capacity, if◌then◌else◌};
+ghost use Rattle.std.specs.Prelude.{true, ◌≡◌, ◌<◌, ◌+◌, ◌++◌, ◌∷◌, ◌==◌, [], length, map, get_or};
+ghost use Rattle.std.specs.Prelude.{nat_lt, vec_len, vec_capacity, if◌then◌else◌};
 ghost use Rattle.std.specs.List.{list_any};
 ghost use Rattle.term_values.specs.Trees.{Among};
 ghost use Rattle.node_desk.specs.Desks.{IsLegalLog};
@@ -49,8 +50,10 @@ pub(crate) fn see_legal(seat: &Seat)
 /// Notes the party's name where it has had more events than before.
 pub(crate) fn note(order: &mut Vec<Name>, name: Name, before: usize, after: usize)
     requires room { vec_len order.old < vec_capacity order.old }
-    ensures items { order.new.items ≡ (if nat_lt before after then order.old.items ++ name ∷ [] else order.old.items) }
-    ensures len { vec_len order.new ≡ (if nat_lt before after then vec_len order.old + 1 else vec_len order.old) }
+    ensures items { order.new.items ≡ (if nat_lt before after then order.old.items ++ name
+        ∷ [] else order.old.items) }
+    ensures len { vec_len order.new ≡ (if nat_lt before after then vec_len order.old + 1 else
+        vec_len order.old) }
     ensures capacity { vec_capacity order.new ≡ vec_capacity order.old }
 {
     if before < after {

@@ -1,4 +1,5 @@
-ghost use Rattle.std.specs.Prelude.{◌≡◌, ◌+◌, ◌<◌, ◌++◌, Some, length, IfOk, IfSome, OnOk, option_map, slice_set, slice_index_or, vec_len, vec_capacity};
+ghost use Rattle.std.specs.Prelude.{◌≡◌, ◌+◌, ◌<◌, ◌++◌, Some, length, IfOk, IfSome, OnOk};
+ghost use Rattle.std.specs.Prelude.{option_map, slice_set, slice_index_or, vec_len, vec_capacity};
 ghost use Rattle.std.specs.Option.{option_to_list};
 ghost use Rattle.mech_rows.specs.Notes.{terms_of};
 ghost use Rattle.mech_rows.specs.Replies.{in_order};
@@ -93,7 +94,8 @@ pub(crate) fn hear(
 /// Keeps what the run at that place has come to.
 pub(crate) fn retell(happened: &mut Vec<Happened>, place: usize, notes: Notes, done: bool)
     requires within { place < vec_len happened.old }
-    ensures kept { (d : HappenedOf) → happened.new.items ≡ slice_set happened.old.items place (record (slice_index_or happened.old.items place d) { notes = notes; done = done }) }
+    ensures kept { (d : HappenedOf) → happened.new.items ≡ slice_set happened.old.items place
+        (record (slice_index_or happened.old.items place d) { notes = notes; done = done }) }
 {
     let run = &mut happened[place];
     run.notes = notes;

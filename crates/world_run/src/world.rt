@@ -1,4 +1,5 @@
-ghost use Rattle.std.specs.Prelude.{true, ◌≡◌, ◌≢◌, ◌↔◌, ◌+◌, [], Err, None, Some, ℕ, map, slice_get, IsTrue, OnOk, IfOk, IfErr};
+ghost use Rattle.std.specs.Prelude.{true, ◌≡◌, ◌≢◌, ◌↔◌, ◌+◌, [], Err, None, Some, ℕ, map};
+ghost use Rattle.std.specs.Prelude.{slice_get, IsTrue, OnOk, IfOk, IfErr};
 ghost use Rattle.std.specs.Option.{option_copied};
 ghost use Rattle.tagged_codec.specs.Grammar.{IsInLimits};
 ghost use Rattle.mech_rows.specs.declared.refusal.Refusal.TheVariants.{Memory};
@@ -74,7 +75,15 @@ impl World {
     ///
     /// `Condition` exactly where the configuration breaks a condition; want of memory.
     pub fn new(alloc: Global, config: &Config) -> Result<World, BadConfig>
-        ensures begins { IfOk result (λ w. w ≡ record { config = config.now; acts = []; clocks = map (λ (p : PartyOf). 0) config.now.parties; draws = 0; runs = [] }) }
+        ensures begins { IfOk result (λ w. w
+            ≡ record {
+              config = config.now;
+              acts = [];
+              clocks = map
+                  (λ (p : PartyOf). 0) config.now.parties;
+              draws = 0;
+              runs = [];
+            }) }
         ensures fit { OnOk result (KeepsConditions config.now) }
         ensures broken { IfErr result (λ e. e ≡ Condition → KeepsConditions config.now → ⊥) }
     {
@@ -106,7 +115,8 @@ impl World {
     /// memory.
     pub fn history(&self) -> &History
         ensures told { told_by result.now ≡ told_of self.now }
-        ensures numbered { (i : ℕ) (r : Happened) → slice_get result.now.happened i ≡ Some r → r.run ≡ i + 1 }
+        ensures numbered { (i : ℕ) (r : Happened) → slice_get result.now.happened i ≡ Some r →
+            r.run ≡ i + 1 }
         ensures genuine { IsGenuine self.now }
         ensures world { IsWorld self.now.config (entries self.now.acts) }
         ensures sound { IsSound self.now.config (trace (entries self.now.acts)) }
@@ -118,7 +128,8 @@ impl World {
     /// Takes no memory.
     pub fn knowledge(&self) -> &Knowledge
         ensures given { result.now.given ≡ known_in self.now }
-        ensures known { (t : Tree) → Derivable result.now.given t ↔ Derivable (known_before self.now.config (trace (entries self.now.acts))) t }
+        ensures known { (t : Tree) → Derivable result.now.given t
+            ↔ Derivable (known_before self.now.config (trace (entries self.now.acts))) t }
     {
         &self.scene.knowledge
     }
@@ -172,7 +183,8 @@ impl World {
         requires plays { plays_live head.now ≡ true }
         requires numbers { HasNumbers self.old }
         ensures ok { IfOk result (λ o. IsOpened self.old head.now texts.now o self.new) }
-        ensures refused { IfErr result (λ e. e ≢ Memory → IsOpenRefused self.old head.now texts.now e self.new) }
+        ensures refused { IfErr result (λ e. e ≢ Memory →
+            IsOpenRefused self.old head.now texts.now e self.new) }
         ensures left { result ≡ Err Memory → IsOpenLeft self.old head.now texts.now self.new }
         ensures memory { result ≡ Err Memory → open_refusal self.old head.now ≡ None }
         ensures grows { HasGrown self.old self.new }
@@ -196,9 +208,12 @@ impl World {
     pub fn give(&mut self, hook: &Hook, run: u32, term: &Term) -> Result<Given, Refusal>
         requires limits { IsInLimits term.now }
         requires numbers { HasNumbers self.old }
-        ensures ok { IfOk result (λ g. IsGiven (allowed hook.now.rules.items) self.old run term.now g self.new) }
-        ensures refused { IfErr result (λ e. e ≢ Memory → IsGiveRefused (allowed hook.now.rules.items) self.old run term.now e self.new) }
-        ensures left { result ≡ Err Memory → IsGiveLeft (allowed hook.now.rules.items) self.old run term.now self.new }
+        ensures ok { IfOk result (λ g. IsGiven
+            (allowed hook.now.rules.items) self.old run term.now g self.new) }
+        ensures refused { IfErr result (λ e. e ≢ Memory →
+            IsGiveRefused (allowed hook.now.rules.items) self.old run term.now e self.new) }
+        ensures left { result ≡ Err Memory →
+            IsGiveLeft (allowed hook.now.rules.items) self.old run term.now self.new }
         ensures memory { result ≡ Err Memory → MayBeGiven self.old run term.now }
         ensures grows { HasGrown self.old self.new }
     {
